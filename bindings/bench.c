@@ -48,7 +48,7 @@ static void differs(const struct party *party, const struct kind *kind, const st
 }
 
 /* Ends the program unless each party that has the kind seals the message to the library's bytes and opens
-   them, and the library refuses them with a bit changed. Leaves the text in place; returns how many peers. */
+   them, and the library refuses them with a bit changed. Leaves the text in place; returns the number of peers. */
 static int agree(const struct kind *kind, const struct message *m) {
     size_t n = whole(kind, m), place = draw() % n;
     uint8_t *text = text_of(kind, m);
@@ -70,7 +70,7 @@ static int agree(const struct kind *kind, const struct message *m) {
     return peers;
 }
 
-/* Waits until the processor's clock is back from what a party's wide products held it at. */
+/* Waits until the processor's clock has recovered from the wide products of a party, which slow it down. */
 static void rest(void) {
     struct timespec start, now;
     clock_gettime(CLOCK_MONOTONIC, &start);

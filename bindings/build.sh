@@ -45,8 +45,8 @@ version=$(version_of "$repository")
 mkdir -p "$room" "$prefix/include" "$prefix/lib/pkgconfig"
 copy "$repository" "$room"
 
-# What an earlier run laid out for AVX2 and this one does not build anew would be taken in the place of this library. The library of
-# another major version has another name, and stays.
+# A build for AVX2 that an earlier run laid out, and that this run does not build again, would be loaded in place of this library.
+# The library of another major version has another name, and stays.
 if [ $whole = no ] || [ $fast = no ]; then
     hwcaps=$prefix/lib/glibc-hwcaps/x86-64-v3/libaeadkit.so
     rm -f "$prefix/lib/x86-64-v3/libaeadkit.a" "$hwcaps" "$hwcaps.${version%%.*}" "$hwcaps.${version%%.*}".*

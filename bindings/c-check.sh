@@ -42,7 +42,7 @@ for compiler in c++ g++ clang++; do
         done
     fi
 done
-# A status that nobody looks at is warned of, whichever call it comes from.
+# The compiler warns about a status that is ignored, whichever call returns it.
 sed 's|/\*.*\*/||; /\/\*/,/\*\//d' "$prefix/include/aeadkit.h" | tr '\n' ' ' | tr ';' '\n' \
     | sed -nE 's/.*uint32_t (aeadkit_[a-z_]*\(.*\))$/\1;/p' | sed -E 's/([(,])[^,()]+/\10/g' \
     | grep -vE '^aeadkit_(version|suite_named)\(' > "$room/calls"
@@ -82,8 +82,8 @@ for order in "-lby_the_other -lby_this" "-lby_this -lby_the_other"; do
     LD_LIBRARY_PATH=$room:$room/other:$out "$room/versions" \
         || { echo "of two versions in one process ($order) a caller gets the wrong one" >&2; exit 1; }
 done
-# The archive keeps its names to what links it, as bindings/README.md says. Two shared objects that link archives get each their
-# own, and a shared object that was linked with another version gets that one, though the program links the archive.
+# The names of the archive are hidden, as bindings/README.md says. Each of two shared objects that link archives calls its own
+# archive, and a shared object that was linked with another version calls that one, even if the program links the archive.
 cc -c -fPIC -DOTHER c/versions.c -o "$room/other.o"
 ar rc "$room/other/libaeadkit.a" "$room/other.o"
 cc -shared -fPIC -DCALLER=by_this c/versions.c "$out/libaeadkit.a" -o "$room/libby_this.so"
@@ -118,7 +118,7 @@ for example in $examples; do
     $by -pthread c/$example.c "$out/libaeadkit.a" -o "$room/$example"
 done
 
-# What an example does: it ends with STATUS, and then holds: does STATUS WORD..
+# Runs an example, which has to end with STATUS: does STATUS WORD..
 does() {
     status=0
     expected=$1
@@ -195,7 +195,7 @@ for other in "$room/pipe" "$folder/link"; do
 done
 [ -p "$room/pipe" ] && [ -L "$folder/link" ] || { echo "an output that is not a file is replaced by one" >&2; exit 1; }
 rm "$folder/link"
-# what has more bytes than its length says would be cut
+# a file with more bytes than its length says would be cut off
 does 1 "$room/file" seal "$room/key" label /dev/zero "$folder/opened"
 grep -q "longer than it was" "$room/fault"
 cmp "$room/text" "$folder/opened"
@@ -249,7 +249,7 @@ for record in 0 999 1000 3999; do
     does 1 "$room/threads" $record
     [ "$(cat "$room/out")" = "3999 of 4000 records opened" ]
 done
-# What cannot be written is not done.
+# An output that cannot be written is a failure.
 if [ -e /dev/full ]; then
     for example in message threads; do
         status=0

@@ -53,7 +53,7 @@ called=$(nm -D --undefined-only "$out/libaeadkit.so" | awk '$1 == "U" { print $2
 [ -z "$called" ] || { echo "the library calls $called" >&2; exit 1; }
 soname=libaeadkit.so.${version%%.*}
 objdump -p "$out/libaeadkit.so" | grep -q "SONAME *$soname\$" || { echo "the library is not named $soname" >&2; exit 1; }
-# The archive has the same names and that of the node, which are hidden from whoever does not link it, and no others.
+# The archive has these names and that of the version node, and no others. They are hidden from whoever does not link it.
 wanted=$(grep -oE "aeadkit_[a-z_]+|$node" exports.map | sort | sed 's/$/ HIDDEN/')
 for archive in "$out/libaeadkit.a" "$out/x86-64-v3/libaeadkit.a"; do
     [ -e "$archive" ] || continue
@@ -77,7 +77,7 @@ if makes "$room/probe.c" cc; then
     else
         echo "left out: C by pkg-config, which is not there"
     fi
-    # Each build that is laid out is of this version: the loader, or the Rust crate, would take one for AVX2 that is older.
+    # Each build that is laid out has this version: otherwise the loader or the Rust crate would take an older one for AVX2.
     number=$(echo "$version" | awk -F. '{ print $1 * 10000 + $2 * 100 + $3 }')
     printf '#include <aeadkit.h>\nint main(void) { return aeadkit_version() != %s; }\n' "$number" > "$room/version.c"
     for build in lib/libaeadkit.a lib/libaeadkit.so lib/x86-64-v3/libaeadkit.a lib/glibc-hwcaps/x86-64-v3/libaeadkit.so; do
@@ -86,7 +86,7 @@ if makes "$room/probe.c" cc; then
         cc $include "$room/version.c" "$file" -Wl,-rpath,"$(dirname "$file")" -o "$room/version"
         "$room/version" || { echo "$build is not of version $version" >&2; exit 1; }
     done
-    # So build.sh takes away those that it does not build anew, before it builds: here by an rt that fails.
+    # So build.sh removes the builds that it does not make again before it builds anything. This is shown by an rt that fails.
     mkdir -p "$room/stub" "$room/again/lib/glibc-hwcaps/x86-64-v3" "$room/again/lib/x86-64-v3"
     printf '#!/bin/sh\nexit 1\n' > "$room/stub/rt"
     chmod +x "$room/stub/rt"

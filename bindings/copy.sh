@@ -11,7 +11,7 @@ filled() {
 }
 
 # Copies the crates that ROOM/crates.txt names from a repository: crates REPOSITORY ROOM
-# What earlier checks kept of a crate is copied too, if the room has nothing of it, so that it is not proved anew.
+# What earlier checks stored of a crate is copied too, if the room has nothing of that crate, so that it is not proved again.
 crates() {
     for name in $(sed -E 's/[ :].*//' "$2/crates.txt"); do
         mkdir -p "$2/crates/$name"
@@ -85,7 +85,7 @@ hidden() {
 }
 
 # Links ROOM/aeadkit.a as FOLDER/libaeadkit.so, under the name that its version says: shared ROOM FOLDER VERSION EXPORTS
-# What it calls of the C library is bound when it is loaded, and not on the stack of a first call.
+# The functions of the C library are bound when the library is loaded, and not on the stack of a first call.
 shared() {
     name=libaeadkit.so.${3%%.*}
     cc -shared -o "$2/libaeadkit.so.$3" -Wl,-soname,"$name" -Wl,-z,now -Wl,--whole-archive "$1/aeadkit.a" -Wl,--no-whole-archive \
@@ -113,7 +113,7 @@ put() {
 }
 
 # Whether this machine runs what is built for x86-64-v3: runs_v3
-# The system's loader is asked, since by the same answer it takes the library for AVX2: so program and library are of one kind. It
+# The system's loader is asked, since it chooses the library by the same answer: so program and library are builds of one kind. It
 # knows every extension of x86-64-v3, and whether the system lets programs use it. Loaders before glibc 2.33 have no such answer,
 # and load the default library.
 runs_v3() {

@@ -108,7 +108,7 @@ manual() {
     echo 'COMMAND.md, the manual, and VECTOR\-FILES.md, the format of vector files, in share/doc/aeadkit.'
 }
 
-# A document, of whose links those stay that lead to a file that is laid out with it.
+# A document with only those of its links that lead to a file that is laid out with it.
 document() {
     sed -E -e 's/\]\(((COMMAND\.md|VECTOR-FILES\.md|published\.vectors)[^)]*)\)/](<\1>)/g' \
         -e 's/\[([^]]*)\]\([^<)][^)]*\)/\1/g' -e 's/\]\(<([^>]*)>\)/](\1)/g' "$docs/$1"

@@ -67,8 +67,8 @@ static int aeadkit_has(const struct kind *kind) {
     return kind != NULL;
 }
 
-/* The calls of whole messages are those in place. Key wrap has none in place: its result is copied to where the
-   peers have theirs, which is part of the time. */
+/* Whole messages are sealed and opened in place. Key wrap has no call in place: its result is copied to where the
+   peers have theirs, and the copy is part of the time. */
 static int by_aeadkit(const struct kind *kind, const struct message *m, enum direction direction) {
     static struct aeadkit_key keys[KINDS];
     static unsigned set[KINDS];
@@ -263,8 +263,8 @@ enum { PARTIES = sizeof parties / sizeof *parties };
 
 /* Holds the peers to the instructions that they may use, and prints their versions. */
 static void prepare(char **argv) {
-    /* With AVX2: no AES and PCLMULQDQ, no 512 bits, VAES and VPCLMULQDQ. Else no AVX and FMA too, and none of
-       the features that leaf 7 of the processor tells. */
+    /* With AVX2 the peers do without AES, PCLMULQDQ, 512 bits, VAES and VPCLMULQDQ. Otherwise they also do without
+       AVX, FMA and every feature in leaf 7 of CPUID. */
     const char *may = capability == AVX2 ? "~0x200000200000000:~0x5f42dc230000" : "~0x1200180200000000:0";
     const char *set = getenv("OPENSSL_ia32cap");
     if (capability != ALL && (!set || strcmp(set, may) != 0)) {
@@ -281,7 +281,7 @@ static void prepare(char **argv) {
 #endif
 #ifdef WITH_GCRYPT
     if (capability == PLAIN) gcry_control(GCRYCTL_DISABLE_HWF, "intel-avx:intel-avx2", NULL);
-    /* It stops at the first name that its version does not know, so they stand in the order of versions. */
+    /* libgcrypt stops at the first name that its version does not know, so the oldest names come first. */
     if (capability != ALL)
         gcry_control(GCRYCTL_DISABLE_HWF,
                      "padlock-aes:intel-pclmul:intel-aesni:intel-vaes-vpclmul:intel-avx512:intel-gfni", NULL);

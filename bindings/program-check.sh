@@ -14,7 +14,7 @@ here=$PWD
 room=$(mktemp -d)
 trap 'rm -rf "$room"' EXIT
 
-# The man page names each fault of the documents, and the documents lead to nothing that is not laid out with them.
+# The man page names each fault of the documents, and no link in the documents leads to a file that is not laid out.
 page=$share/man/man1/aeadkit.1
 for document in COMMAND VECTOR-FILES; do
     for fault in $(awk -F '|' '/^\|/ { print $2; print $4 }' "../docs/$document.md" | grep -oE '`[A-Z][A-Za-z]+`' | tr -d '`'); do

@@ -19,7 +19,7 @@ awk '
 / =/ && !/^format/ { line = line " " ($3 == "" ? "-" : $3) }
 ' "$file" | sort > "$room/file"
 
-# The vectors of the tests, up to those that no standard publishes: each a text that may stand in several lines.
+# The vectors of the tests, up to the first that no standard publishes. Each is a string that may take several lines.
 sed '/PADDED_LENGTHS/,$d' "$tests" | awk '
 { part = $0; if (joins) sub(/^ */, "", part); joins = sub(/\\$/, "", part); printf "%s", part; if (!joins) print "" }
 ' | grep -oE '"(chacha20|aes)-[^"]*"' | tr -d '"' | sort > "$room/tests"

@@ -31,7 +31,7 @@ for size in 0 1 1048576 3000000; do
     "$python" "$segments" seal key label < text | cat > sealed
     "$python" "$segments" open key label < sealed | cmp - text
 done
-# what was cut at a segment's end, or has more behind it, or another label, is refused, after a true beginning at most
+# a text that is cut at a segment's end, has more bytes behind it or another label is refused, after a true beginning at most
 refused() {
     label=$1
     if "$python" "$segments" open key "$label" > opened 2> log; then

@@ -10,7 +10,7 @@ static void *(*next_aligned_alloc)(size_t, size_t);
 static int (*next_posix_memalign)(void **, size_t, size_t);
 static long refused_one, requests;
 
-/* Whether this request is the one. What runs before `main` is not counted. */
+/* Whether this request is the one to refuse. Requests before `main` are not counted. */
 static int refuses(void) {
     if (!refused_one || ++requests != refused_one) {
         return 0;

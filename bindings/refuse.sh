@@ -1,9 +1,8 @@
 #!/bin/sh
-# Refuses each request for memory of the built program in turn, those of its reading of the words too:
+# Refuses each request of the built program for memory in turn, also while it reads the words of the command line:
 # refuse.sh PROGRAM
-# The answer has to be 'aeadkit: OutOfMemory' with status 4, and OUT not made, until a run asks for no more than
-# is given; then it is the right one. It prints a line for each command, how many requests were refused, and
-# wants cc.
+# The answer has to be 'aeadkit: OutOfMemory' with status 4, and OUT must not exist, until no request of a run is refused;
+# then the answer has to be the right one. It prints for each command how many requests were refused. It needs cc.
 set -eu
 if [ $# != 1 ]; then
     echo "usage: refuse.sh PROGRAM" >&2
@@ -43,7 +42,7 @@ tried() {
     refused=0
     number=1
     same=0
-    # After twenty requests more than were ever made, no request is left.
+    # After twenty right answers in a row, the number is past the last request.
     while [ $same -lt 20 ]; do
         found=$(answer $number "$@")
         if [ "$found" = "$right" ]; then

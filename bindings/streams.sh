@@ -1,6 +1,6 @@
 #!/bin/sh
 # Runs the built program over standard streams, pipes and several names of one file: streams.sh PROGRAM
-# These are the system's, of which neither contracts nor tests speak. It prints one line.
+# They belong to the system, and neither contracts nor tests speak of them. It prints one line.
 set -eu
 if [ $# != 1 ]; then
     echo "usage: streams.sh PROGRAM" >&2
@@ -16,7 +16,7 @@ fails() {
     exit 1
 }
 
-# A run in a shell with these redirections ends with this status, and its fault is this one, or none:
+# A run in a shell with these redirections ends with this status and this fault, or without a fault:
 # ends STATUS FAULT REDIRECTIONS WORDS..
 ends() {
     want=$1 fault=$2 streams=$3
@@ -85,7 +85,7 @@ ends 2 Words '' seal-file $once --in text --out "$odd"
 ln -s "$program" "$odd"
 [ "$("./$odd" --version)" = "$("$program" --version)" ] || fails "its name is a word"
 
-# /dev/stdin as IN: a file, and a pipe that is read once. What is read again from a pipe has no bytes left.
+# /dev/stdin as IN: a file, and a pipe that is read once. A pipe that is read again has no bytes left.
 ends 0 '' '< text' seal-file $once --in /dev/stdin --out out
 same out once
 ends 0 '' '< text' seal-file $twice --in /dev/stdin --out out
@@ -116,7 +116,7 @@ for suite in once twice; do
     same out long
 done
 
-# A second name of IN as OUT loses a file of more than 64 KiB. That is `Read`.
+# A second name of IN as OUT loses a file of more than 64 KiB. The fault is `Read`.
 for name in ./in hard soft; do
     for suite in once twice; do
         options=$(eval "echo \$$suite")
@@ -141,7 +141,7 @@ head -c 290000 long > in
     | { dd bs=1 count=1 2> dd; head -c 10000 long >> in; cat; } > out
 same out long.once
 
-# What OUT holds stays where a refusal comes first.
+# OUT keeps its contents if the refusal comes before the first write.
 cp text out
 ends 1 TagMismatch '' open-file $once --in long.twice --out out
 ends 1 TooShort '' open-file $once --in text --out out

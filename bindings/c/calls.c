@@ -114,7 +114,7 @@ static const uint32_t statuses[FAULTS] = {AEADKIT_NOT_BEGUN,    AEADKIT_UNKNOWN_
 static uint8_t *vast; /* more zeros than any limit that memory can hold, which no call touches; or NULL if there is no such room */
 static const size_t vast_length = ((size_t)1 << 38) + 64;
 
-/* A call on a text of `length` bytes with these faults at once: its status is the one of the first. */
+/* A call on a text of `length` bytes with these faults at once: the status is that of the first fault. */
 static void with_faults(enum call call, int with, uint32_t suite, size_t length, unsigned faults) {
     static const uint8_t zeros[33] = {0};
     uint8_t from[LONGEST + 16], to[GUARD + LONGEST + 16 + GUARD], tag[16], from_before[LONGEST + 16], tag_before[16];

@@ -81,7 +81,7 @@ static void move_sealer(struct aeadkit_sealer *sealer, const struct message *m, 
     else *sealer = moved;
 }
 
-/* The same of an opener, in either pass. */
+/* Moves an opener, or saves it and resumes it elsewhere, in either pass. */
 static void move_opener(struct aeadkit_opener *opener, const struct message *m, long number) {
     struct aeadkit_opener moved = *opener;
     struct aeadkit_saved_passes saved;
@@ -96,7 +96,7 @@ static void move_opener(struct aeadkit_opener *opener, const struct message *m, 
     else *opener = moved;
 }
 
-/* The same of a sealing by two readings, in either of them. */
+/* Moves a sealing by two readings, or saves it and resumes it elsewhere, in either reading. */
 static void move_siv(struct aeadkit_siv *siv, const struct message *m, long number) {
     struct aeadkit_siv moved = *siv;
     struct aeadkit_saved_passes saved;
@@ -264,7 +264,7 @@ static void seal_by_two_readings(long number) {
     want(aeadkit_siv_finish(&siv) == AEADKIT_NOT_BEGUN, "finished twice", number);
 }
 
-/* A struct of random bytes between guard bytes, by the mark of a suite in three cases of four. */
+/* A struct of random bytes between guard bytes, with the mark of a suite in three cases of four. */
 static void rubbish(long number, const struct aeadkit_sealer *marks) {
     struct {
         uint8_t before[64];
@@ -297,7 +297,7 @@ static void rubbish(long number, const struct aeadkit_sealer *marks) {
     want(all(held.before, 64, 0xa5) && all(held.after, 64, 0xa5), "bytes about the struct", number);
 }
 
-/* A struct of an opening of random bytes between guard bytes, by the mark of a pass and a suite in three cases of four. */
+/* An opener of random bytes between guard bytes, with the mark of a pass and a suite in three cases of four. */
 static void opener_rubbish(long number, const struct aeadkit_opener marks[2][6]) {
     struct {
         uint8_t before[64];
@@ -339,7 +339,7 @@ static void opener_rubbish(long number, const struct aeadkit_opener marks[2][6])
     want(all(held.before, 64, 0xa5) && all(held.after, 64, 0xa5), "bytes about the struct", number);
 }
 
-/* A struct of a sealing by two readings of random bytes between guard bytes, by the mark of a reading and a suite in three
+/* A struct of random bytes between guard bytes, for a sealing by two readings, with the mark of a reading and a suite in three
    cases of four. */
 static void siv_rubbish(long number, const struct aeadkit_siv marks[2][2]) {
     struct {
@@ -436,8 +436,8 @@ static void refusals(void) {
     }
 }
 
-/* A sealing of a message begins under a kept key as under its bytes, or is refused under a suite that the call does not take, or
-   with a nonce of another length. An opening begins under each. */
+/* A sealing begins under a kept key as under the bytes of the key. It is refused under a suite that the call does not take, and
+   with a nonce of another length. An opening begins under each suite. */
 static void begun_by_a_kept_key(const struct aeadkit_key *kept, const struct message *m, long number) {
     struct {
         uint64_t before[2];
@@ -477,7 +477,7 @@ static void begun_by_a_kept_key(const struct aeadkit_key *kept, const struct mes
          "written beside the structs", number);
 }
 
-/* A kept key seals, begins and opens a message as its bytes do, and no call writes it. */
+/* A kept key seals and opens messages, whole and in pieces, as the bytes of the key do, and no call changes it. */
 static void by_a_kept_key(long number) {
     struct message m = message_of(number, 1 + (uint32_t)(number % 6));
     struct { uint8_t before[16]; struct aeadkit_key kept; uint8_t after[16]; } held;
@@ -514,8 +514,8 @@ static void by_a_kept_key(long number) {
     want(all(held.before, 16, 0xa5) && all(held.after, 16, 0xa5), "written beside a kept key", number);
 }
 
-/* A struct with any mark but those of kept keys is refused, and one with such a mark and random bytes behind it is read within
-   its bounds: the status is one of the call's. */
+/* A struct without the mark of a kept key is refused. One with such a mark and random bytes behind it is read within its bounds:
+   the status is one that the call can return. */
 static void kept_key_rubbish(long number) {
     struct aeadkit_key kept;
     uint8_t key[33], nonce[12] = {0}, bytes[64], before[64];
@@ -545,8 +545,8 @@ static void kept_key_rubbish(long number) {
          number);
 }
 
-/* Such structs begin a sealing or an opening, or are refused. Nothing but the struct that is begun is written, which is zeros
-   after a refusal. */
+/* A sealing or an opening begins under such a struct, or is refused. Only the struct of the sealing or the opening is written,
+   and it is zeros after a refusal. */
 static void kept_key_rubbish_begins(long number, const uint64_t marks[6]) {
     struct {
         uint64_t before[8];
@@ -627,7 +627,7 @@ static uint32_t keyed(uint64_t *numbers, uint32_t suite, const uint8_t *key, siz
     return AEADKIT_DONE;
 }
 
-/* Saved states of random bytes, by the mark of a suite in three cases of four: a resume is refused, and leaves zeros, or makes a
+/* Saved states of random bytes, with the mark of a suite in three cases of four: resume refuses them and leaves zeros, or makes a
    struct that the calls are safe on. It writes nothing else, and a refused save writes nothing. */
 static void saved_rubbish(long number, const uint64_t sealers[4], const uint64_t openers[2][6], const uint64_t sivs[2][2]) {
     struct {
@@ -716,8 +716,8 @@ static void saved_rubbish(long number, const uint64_t sealers[4], const uint64_t
          "written beside the structs", number);
 }
 
-/* Every order of five calls on each struct, with pieces of no bytes: the status is that of the state that the calls before have
-   led to, and a refused call changes nothing. */
+/* Every order of five calls on each struct, with empty pieces: the status fits the state that the calls before have led to, and
+   a refused call changes nothing. */
 static void orders(void) {
     enum { INIT, FIRST, BEGIN_SECOND, SECOND, FINISH, WIPE, SAVE, CALLS, ORDERS = 7 * 7 * 7 * 7 * 7 };
     static const size_t key_lengths[6] = {32, 16, 24, 32, 16, 32};

@@ -17,7 +17,7 @@ enum { STACK = 1 << 15, PRINTING = 1 << 18, PAGE = 4096, FRAME = 256, MOST = 1 <
 static const uint64_t paint = 0x5bd1e995a3c59ac3;
 static unsigned char *base, *lowest, *caller; /* the stack's end, the first byte that a call may use, where a call begins */
 static int printing;
-static const char *wrong_status; /* the last call with another status than it should have */
+static const char *wrong_status; /* the last call with a wrong status */
 static struct {
     const char *call;
     size_t most;
@@ -46,7 +46,7 @@ __attribute__((noinline)) static void after(const char *call, int as_wanted) {
     if (!as_wanted) wrong_status = call;
 }
 
-/* Makes a call that returns that number. */
+/* Makes a call that has to return this number. */
 #define TAKES(wanted, call)                         \
     do {                                            \
         size_t returned;                            \

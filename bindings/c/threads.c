@@ -18,7 +18,7 @@ static int opening;
 
 static void *work(void *first) {
     for (struct record *r = (struct record *)first; r < (struct record *)first + EACH; r++) {
-        /* The nonce is the number of the record, which no other thread has: so no nonce comes twice under the key. */
+        /* The nonce is the number of the record. Each thread has its own records, so no nonce comes twice under the key. */
         uint64_t number = (uint64_t)(r - records);
         uint8_t nonce[AEADKIT_NONCE_BYTES] = {0};
         for (int i = 0; i < 8; i++) nonce[i] = (uint8_t)(number >> 8 * i);

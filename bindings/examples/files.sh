@@ -12,8 +12,8 @@
 # - reordering and cutting: the file is one sealing, which opens as a whole or not at all;
 # - swapping: LABEL is the associated data, and is given again to open. Another sealed file opens in this one's place, with
 #   its own OUT.how, only if its label is the same: let the label say what the file is, and when it was sealed;
-# - a nonce that comes twice: it is drawn at random for each file, and AES-GCM-SIV tells at a repeat only whether text and
-#   label were the same.
+# - a nonce that comes twice: it is drawn at random for each file, and a repeat under AES-GCM-SIV gives away only whether text
+#   and label were the same.
 # OUT must not exist. It is written under another name, and gets its own after status 0.
 #
 # Status: 0 done; 1 not authentic: changed, cut, or sealed under another key, suite, nonce or label; 2 wrong words, key or

@@ -8,7 +8,7 @@ use std::path::{Path, PathBuf};
 use std::process::Command;
 use std::{env, fs};
 
-/// The features that the archive for AVX2 wants beyond the other one's.
+/// The features that the archive for AVX2 needs and the default archive does not.
 const FAST: [&str; 7] = ["avx2", "bmi1", "bmi2", "f16c", "fma", "lzcnt", "movbe"];
 
 /// What pkg-config says of the library's folder, if it knows the library.
@@ -26,7 +26,7 @@ fn from_layout() -> Option<PathBuf> {
     lib.join("libaeadkit.a").exists().then_some(lib)
 }
 
-/// Whether the program is compiled for processors that have all that the archive for AVX2 wants.
+/// Whether the program is compiled for processors that have all features that the archive for AVX2 needs.
 fn is_fast() -> bool {
     let features = env::var("CARGO_CFG_TARGET_FEATURE").unwrap_or_default();
     FAST.iter().all(|wanted| features.split(',').any(|feature| feature == *wanted))

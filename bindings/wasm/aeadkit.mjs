@@ -107,7 +107,7 @@ const [kindOf, lengthOf, bufferOf, offsetOf] = [Symbol.toStringTag, "length", "b
     .map((name) => Object.getOwnPropertyDescriptor(TypedArray, name).get);
 
 // Returns the arguments as plain Uint8Arrays over the same memory. Throws if one is not a Uint8Array. An array whose memory is
-// gone has the length 0, but is no empty text: its buffer was transferred, as to a worker, or became shorter.
+// gone has the length 0, but is not an empty text: its buffer was transferred, as to a worker, or became shorter.
 function wantBytes(...arrays) {
     return arrays.map((array) => {
         if (kindOf.call(array) !== "Uint8Array") {
@@ -168,8 +168,8 @@ function grow(memory, pages) {
 // The next place that fits a struct.
 const aligned = (place) => 8 * Math.ceil(place / 8);
 
-// How a call takes bytes: by their address, and by their length unless that is known to the call. It reads what stands in `from`
-// if that is given, and what it leaves there goes to `to` if that is given. A Uint8Array by itself is an input.
+// How a call takes bytes: by their address, and by their length unless the call knows it. If `from` is given, the call reads its
+// bytes. If `to` is given, it gets the bytes that the call leaves. A Uint8Array by itself is an input.
 const input = (from) => ({ from, hasLength: true });
 const output = (to) => ({ to, hasLength: true });
 const inPlace = (from, to = from) => ({ from, to, hasLength: true });
@@ -178,7 +178,7 @@ const result = (to) => ({ to, hasLength: false });
 const struct = (bytes) => ({ from: bytes, to: bytes, hasLength: false });
 
 // The major version of the modules that are called here. The calls of another version have the same names and may take other
-// arguments, of which a host drops those that are too many: a seal of version 2.1 would leave the result as zeros, with status 0.
+// arguments, and a host drops arguments that are too many: a seal of version 2.1 would leave the result as zeros, with status 0.
 const MAJOR = 3;
 
 // A module with its own memory. The bytes of a call stand past what the module itself uses; between two calls there are zeros.
@@ -220,8 +220,8 @@ class Module {
             grow(memory, Math.ceil((end - memory.buffer.byteLength) / 65536));
         }
         const standing = ({ place, length }) => new Uint8Array(memory.buffer, place, length);
-        // What does not return, as where the host's stack is full, leaves the module in the middle of a call: it would trap at each
-        // later one. So the next call begins with a new memory. A state is in its struct, which is changed last of all.
+        // A call that does not return, as when the host's stack is full, leaves the module in the middle of the call: it would trap at
+        // each later one. So the next call begins with a new memory. A state is in its struct, which is changed last of all.
         this.#exports = undefined;
         placed.filter(({ from }) => from).forEach((bytes) => standing(bytes).set(bytes.from));
         const returned = exports[name](...given);

@@ -208,7 +208,7 @@ assert.throws(() => aead.seal(suite, key, nonce), TypeError);
 assert.throws(() => new Opener(aead, suite, key, nonce, none), aeadkit.TagLength);
 assert.deepEqual(kept.seal(Buffer.from(nonce), Buffer.from(text), { aad: Buffer.from(aad) }), sealed);
 
-// Each result is an array of its own, and no argument changes.
+// Each result is a new array, and no argument changes.
 const before = [key, nonce, tag, text].map((array) => array.slice());
 const results = [
     () => kept.seal(nonce, text), () => kept.open(nonce, kept.seal(nonce, text)), () => aead.seal(suite, key, nonce, text),
@@ -228,7 +228,7 @@ for (const result of results) {
 }
 assert.deepEqual([key, nonce, tag, text], before);
 
-// What is wiped or finished has not begun. What a key began goes on without it.
+// An object that was wiped or finished has not begun. A sealing or an opening goes on without the key that began it.
 const wiped = new Key(aead, siv, key);
 const going = [wiped.sivSealer(nonce), wiped.opener(nonce, tag)];
 wiped.wipe();
@@ -277,7 +277,7 @@ for (const [object, call] of [
 }
 assert.equal(copies(kept).every((copy) => !JSON.stringify(copy).includes("7")), true);
 
-// What is handed in for an Aead has to be one.
+// An argument that should be an Aead has to be one.
 for (const other of [undefined, null, {}, "aead", keywrap, structuredClone(aead), Object.create(Aead.prototype), kept]) {
     for (const call of [
         () => new Key(other, suite, key), () => new Sealer(other, suite, key, nonce),
@@ -343,7 +343,7 @@ assert(isZero());
 assert.throws(() => held.openInPlace(nonce, text.slice(), tag), aeadkit.TagMismatch);
 assert(isZero());
 
-// An array whose memory is gone has the length 0 and is no empty text. It is refused before any bytes are placed.
+// An array whose memory is gone has the length 0 and is not an empty text. It is refused before any bytes are placed.
 const transferred = text.slice();
 structuredClone(transferred, { transfer: [transferred.buffer] });
 const shortened = new Uint8Array(new ArrayBuffer(40, { maxByteLength: 80 }), 8, 16);
@@ -361,8 +361,8 @@ for (const other of [transferred, shortened]) {
     }
 }
 
-// What an array says of itself does not count: a subclass and a property may say another length, or keep the results to
-// themselves. An array of another realm, as of a frame, is a Uint8Array too.
+// What an array says of itself does not count: a subclass or a property may state another length, or hold the results back.
+// An array of another realm, as of a frame, is a Uint8Array too.
 class Odd extends Uint8Array {
     get length() {
         return 5;
@@ -414,7 +414,7 @@ for (const call of [
 ]) {
     assert.throws(call, { name: "TypeError", message: "a Uint8Array is required" });
 }
-// Options may call the module: what they name is looked at before anything else.
+// Options may call the module, so they are read before anything else.
 const options = {
     get aad() {
         return kept.seal(nonce, text).subarray(-16);
@@ -422,7 +422,7 @@ const options = {
 };
 assert.deepEqual(kept.seal(nonce, text, options), kept.seal(nonce, text, { aad: options.aad }));
 
-// A call that the host cuts off, since its stack is full, changes nothing, and what comes after it is right.
+// A call that the host cuts off, since its stack is full, changes nothing, and the calls after it give the right results.
 const atTheEndOfTheStack = (call) => {
     let cut = 0;
     let made;

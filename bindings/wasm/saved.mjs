@@ -18,7 +18,7 @@ for (const suite of Object.values(Suite)) {
     const sealed = kept.seal(nonce, text, { aad });
     const [body, tag] = [sealed.slice(0, -16), sealed.slice(-16)];
 
-    // A sealing goes on from its saved bytes, and no more by itself.
+    // A sealing goes on from its saved bytes, and the object that was saved does not.
     for (const split of splits) {
         const [first, second] = [text.subarray(0, split), text.subarray(split)];
         if (siv(suite)) {
@@ -45,7 +45,7 @@ for (const suite of Object.values(Suite)) {
             assert.deepEqual(joined([head, sealer.update(second), sealer.finish()]), sealed);
         }
 
-        // An opening goes on in either pass, and also what was saved does.
+        // An opening goes on in either pass, and so does the object that was saved.
         const opener = kept.opener(nonce, tag, { aad });
         opener.check(body.subarray(0, split));
         const saved = opener.save();
@@ -75,7 +75,7 @@ for (const suite of Object.values(Suite)) {
         changed[i] ^= 0x40;
         assert.throws(() => Opener.resume(aead, suite, key, nonce, changed), NotSaved);
     }
-    // A saved state goes on under its own key and nonce alone: what went on under others could not be opened.
+    // A saved state goes on under its own key and nonce alone: a sealing that went on under others could not be opened.
     const flipped = (bytes, place) => bytes.map((byte, i) => (i === place ? byte ^ 1 : byte));
     const second = kept.opener(nonce, tag, { aad });
     second.check(body);

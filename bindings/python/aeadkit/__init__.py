@@ -169,7 +169,7 @@ class NotBegun(Refused):
 
 
 class NotFinished(Refused):
-    """A with statement ended without an exception, and what it began was neither finished nor saved nor closed: a sealing has no
+    """A with statement ended without an exception, and its object was neither finished nor saved nor closed: a sealing has no
     tag, a ciphertext was not authenticated, or a text of the second pass is not to be used."""
 
     message = "the with statement ended before finish, save or close"

@@ -143,7 +143,7 @@ class Saved(NamedTuple):
 
 
 def _declare_if_there(name: str, *arguments: Any) -> Callable[..., int]:
-    """A function that a library need not have. If it has none, the call is a NotImplementedError."""
+    """A function that a library may lack. If it does, the call is a NotImplementedError."""
     if hasattr(_library, name):
         return _declare(name, *arguments)
 

@@ -2,8 +2,8 @@
 
 KEYFILE holds 32 bytes. OUT becomes the nonce, the ciphertext and the tag. If the program is stopped at any time, run it again:
 each turn of its loop begins with the step in OUT.step, so a restart is a turn like any other. A step has a piece of OUT, and
-the state that comes after the piece. The next step replaces it on the disk before its own piece is written to OUT: of what is
-sealed from one state no two pieces are ever seen, even if IN is changed between two runs. But OUT would then be the sealing of
+the state that comes after the piece. The next step replaces it on the disk before its own piece is written to OUT: so two pieces
+that are sealed from one state are never seen, even if IN is changed between two runs. But OUT would then be the sealing of
 a text that never was: if IN has another length or time of change than at first, it is refused. So is an OUT that was removed, or
 has another length: it would get the rest of the sealing alone. Two runs at once would go on from one state: the second one is
 refused.

@@ -44,7 +44,7 @@ for other in ("a text", 16, None):
         continue
     raise SystemExit(f"{other!r} was taken for a text")
 
-# each suite with texts around the length of a block; no text is a text too
+# each suite with texts around the length of a block, and with the empty text
 for suite in Suite:
     key = bytes(suite.key_bytes)
     kept = aeadkit.Key(suite, key)

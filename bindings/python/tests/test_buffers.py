@@ -65,7 +65,7 @@ def rows(data):
     return memoryview(data).cast("B", (2, len(data) // 2))
 
 
-# each makes of bytes another object that gives them; lengths are multiples of 4
+# each turns bytes into another object that gives them; lengths are multiples of 4
 KINDS = [bytes, bytearray, memoryview, Bytes, backwards, every_second, mapped, mapped_for_reading, structure, words("B"),
          words("b"), words("i"), words("H"), words("f"), rows, lambda data: memoryview(words("I")(data)),
          lambda data: memoryview(words("H")(data[::-1])).cast("B")[::-1], lambda data: io.BytesIO(data).getbuffer(),
@@ -112,7 +112,7 @@ class Buffers(unittest.TestCase):
                 self.assertEqual(aeadkit.unwrap_padded(key, kind(padded)), TEXT)
 
     def test_every_kind_in_place(self):
-        """What is writable and contiguous is changed where it stands, and all else is a TypeError and is not changed."""
+        """A writable and contiguous buffer is changed in place. Anything else is a TypeError, and is not changed."""
         kept, changed = Key(SUITE, KEY), 0
         for kind in KINDS:
             with self.subTest(kind=kind):
@@ -149,7 +149,7 @@ class Buffers(unittest.TestCase):
         self.assertGreater(changed, 5)
 
     def test_in_place_over_one_buffer(self):
-        """Associated data, text and tag may lie in one buffer: what is only read is copied first."""
+        """Associated data, text and tag may lie in one buffer: the bytes that are only read are copied first."""
         key, record = Key(SUITE, KEY), bytearray(b"head" + TEXT + bytes(16))
         head, text, tag = memoryview(record)[:4], memoryview(record)[4:-16], memoryview(record)[-16:]
         tag[:] = key.seal_in_place(NONCE, text, aad=head)
@@ -225,7 +225,7 @@ class Buffers(unittest.TestCase):
         self.assertEqual(aeadkit.open(SUITE, KEY, NONCE, aeadkit.seal(SUITE, KEY, NONCE, one)), bytes(one))
 
     def test_addresses(self):
-        """The bytes of a pointer say where a text stands. Sealed instead of the text, they are all that an opening would give."""
+        """The bytes of a pointer are an address. If they were sealed in place of the text, an opening would give the address alone."""
 
         class Record(ctypes.Structure):
             _fields_ = [("number", ctypes.c_uint32), ("text", ctypes.c_char_p)]

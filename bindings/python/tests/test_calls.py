@@ -183,7 +183,7 @@ class Exceptions(unittest.TestCase):
         self.assertLessEqual(named, set(aeadkit.__all__))
 
     def test_statuses(self):
-        """Each status of the library has a class, but that of an output's length, which the package always gives right."""
+        """Each status of the library has a class, except that of a wrong output length, since the package makes the outputs."""
         texts = {}
         for status in range(1, 100):
             with self.assertRaises(aeadkit.Refused) as context:
@@ -263,7 +263,7 @@ class Exceptions(unittest.TestCase):
 
 
 class Order(unittest.TestCase):
-    """Calls at the wrong time, and that a refusal leaves a state as it was."""
+    """A call at the wrong time is refused, and a refusal leaves a state as it was."""
 
     def test_sealer(self):
         sealer = Sealer(Suite.AES_256_GCM, KEY, NONCE, aad=b"aad")
@@ -491,7 +491,7 @@ class Closing(unittest.TestCase):
                 with state:
                     use(state)
             self.assertRaisesRegex(aeadkit.NotBegun, "closed", state.finish)
-            # another exception is not replaced, and who gives up, saves or begins anew says so
+            # another exception is not replaced; close, save and a new __init__ end the sealing or opening on purpose
             with self.assertRaises(KeyError):
                 with begin[kind]() as state:
                     use(state)
@@ -505,7 +505,7 @@ class Closing(unittest.TestCase):
                 state.__init__(state.suite, KEY, NONCE, *((tag,) if kind == "opener" else ()))
             saved = begin[kind]()
             use(saved)
-            # what was resumed has to be finished, also if no call follows
+            # a resumed state has to be finished, even if no call follows
             with self.assertRaises(aeadkit.NotFinished):
                 with type(saved).resume(saved.suite, KEY, NONCE, saved.save()) as state:
                     pass
@@ -533,7 +533,7 @@ class Closing(unittest.TestCase):
                         yield
                         state.close()
 
-                # closed before its end, deleted, and run to its end
+                # the generator is closed before its end, deleted, and run to its end
                 for end in (lambda made: made.close(), lambda made: None, list):
                     made = generator()
                     next(made)
@@ -561,7 +561,7 @@ class Closing(unittest.TestCase):
                 state.__del__()
 
     def test_an_exception_that_ends_a_sealing_in_place(self):
-        """The tag is lost, so the sealing is undone: what is sealed twice under one nonce may be the text again."""
+        """The tag is lost, so the sealing is undone. Then the same text may be sealed again under the same nonce."""
         for suite in Suite:
             key = Key(suite, KEY[: suite.key_bytes])
             calls = {"aeadkit_seal_in_place_with": lambda text: key.seal_in_place(NONCE, text, aad=b"aad"),
@@ -587,7 +587,7 @@ class Closing(unittest.TestCase):
                         self.assertEqual(buffer + tag, key.seal(NONCE, text, aad=b"aad"))
 
     def test_an_exception_that_ends_a_call_on_a_piece(self):
-        """As one of a signal handler does: nobody knows whether the piece was taken, so nothing goes on, and no tag comes."""
+        """Like one from a signal handler. Nobody knows whether the piece was taken, so the object is closed and gives no tag."""
         opener = Opener(Suite.AES_256_GCM, KEY, NONCE, SEALED[-16:], aad=b"aad")
         opener.check(SEALED[:-16])
         opener.begin_second()
@@ -615,7 +615,7 @@ class Closing(unittest.TestCase):
 
                 with unittest.mock.patch.object(aeadkit._library, f"aeadkit_{name}", interrupted):
                     self.assertRaises(KeyboardInterrupt, getattr(state, way), piece)
-                # also for a call of another thread that waits for the struct
+                # the struct is wiped too, in case a call of another thread waits for it
                 self.assertEqual(bytes(held._memory), bytes(len(bytes(held._memory))))
                 self.assertRaisesRegex(aeadkit.NotBegun, "closed", getattr(state, way), piece)
                 self.assertRaisesRegex(aeadkit.NotBegun, "closed", state.finish)
@@ -623,13 +623,13 @@ class Closing(unittest.TestCase):
                     piece += b"more"
 
     def test_an_exception_at_each_line(self):
-        """As of a signal handler. A sealing in place is undone; an object in pieces is closed, or goes on as if nobody had called."""
+        """Like one from a signal handler. A sealing in place is undone. An object in pieces is closed, or goes on as without the call."""
 
         class Stop(BaseException):
             pass
 
         def raised_at_each_line(begin, call):
-            """What was begun, after the call was ended at the first line of the package, the second, and so on."""
+            """The begun objects, whose call was ended at the first line of the package, at the second, and so on."""
             number = 0
             while True:
                 state, number, lines = begin(), number + 1, itertools.count(1)
@@ -711,7 +711,7 @@ class Closing(unittest.TestCase):
                         pass
 
     def test_an_exception_keeps_no_key(self):
-        """A struct is wiped with its object, though a traceback has the frames of a call that was refused."""
+        """A struct is wiped with its object, even if a traceback holds the frames of a refused call."""
         calls = [lambda key: key.open(NONCE, SEALED), lambda key: key.seal(b"", TEXT), lambda key: key.sealer(b""),
                  lambda key: key.open_in_place(NONCE, bytearray(16), bytes(16)), lambda key: key.opener(b"", bytes(16)),
                  lambda key: key.seal_in_place(b"", bytearray(16)), lambda key: key.siv_sealer(NONCE)]

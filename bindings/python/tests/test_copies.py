@@ -48,7 +48,7 @@ class Keys(unittest.TestCase):
             for make in (copy.copy, copy.deepcopy, lambda key: dataclasses.asdict(Holder(key))["held"],
                          lambda key: dataclasses.astuple(Holder([key]))[0][0]):
                 twin = make(Key(suite, KEY[: suite.key_bytes]))
-                # the first key is gone, and others may come to lie where it was
+                # the first key is gone, and other keys may take its place in memory
                 others = [Key(suite, bytes([n]) * suite.key_bytes) for n in range(100)]
                 self.assertEqual(twin.seal(NONCE, b"text"), expected)
                 del others
@@ -136,7 +136,7 @@ class Forks(unittest.TestCase):
         return os.waitpid(child, 0)[1] == 0
 
     def test_a_fork_that_python_does_not_know(self):
-        """As by a library of C, which runs none of Python's hooks."""
+        """A library in C may fork without running Python's hooks."""
         for state in states():
 
             def refused():
@@ -166,14 +166,14 @@ class Forks(unittest.TestCase):
                 return True
 
             self.assertTrue(self.in_child(refused), state)
-        # and serves there as before
+        # in its own process the state serves as before
         sealer = Sealer(Suite.AES_256_GCM, KEY, NONCE)
         made = sealer.update(b"te")
         self.in_child(lambda: sealer.update(b"XX"))
         self.assertEqual(made + sealer.update(b"xt") + sealer.finish(), Key(Suite.AES_256_GCM, KEY).seal(NONCE, b"text"))
 
     def test_a_child_may_leave_a_with_statement(self):
-        """What its parent has to finish is not the child's."""
+        """The child does not have to finish what its parent began."""
         with Sealer(Suite.AES_256_GCM, KEY, NONCE) as sealer:
             made = sealer.update(b"text")
 

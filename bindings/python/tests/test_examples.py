@@ -1,4 +1,4 @@
-"""The examples over streams that give what a program on its first day does not expect."""
+"""The examples over unusual streams: pipes that do not wait, writes that take a part, and files that change."""
 
 import importlib.util
 import io
@@ -36,7 +36,7 @@ class Segments(unittest.TestCase):
                 for call in (segments.seal, segments.open_sealed):
                     target = io.BytesIO()
                     self.assertRaises(BlockingIOError, call, master, b"label", source, target)
-                    # the wrapped key at most, and no segment
+                    # at most the wrapped key is written, and no segment
                     self.assertLessEqual(len(target.getvalue()), 40)
 
     def test_a_stream_that_takes_a_part(self):
@@ -83,7 +83,7 @@ class Segments(unittest.TestCase):
 
 class Resume(unittest.TestCase):
     def test_another_text_after_a_restart(self):
-        """The pieces of two texts would be sealed as one."""
+        """Pieces of two texts would be sealed as one text."""
         resume, key, text = example("resume"), bytes(range(32)), bytes(range(256)) * 12_000
         for change in ("none", "contents", "length", "another file"):
             with tempfile.TemporaryDirectory() as folder:

@@ -1,4 +1,4 @@
-"""What the import says of a library that does not fit."""
+"""The import of the package with a library that does not fit."""
 
 import os
 import shutil

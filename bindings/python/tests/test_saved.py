@@ -32,7 +32,7 @@ def again(state):
 
 
 def kinds():
-    """A state of each class under each suite, in each pass, with what is saved of it."""
+    """A state of each class under each suite, in each pass, with its saved bytes."""
     for suite in Suite:
         key = Key(suite, key_of(suite))
         sealed = key.seal(NONCE, TEXT)
@@ -146,7 +146,7 @@ class Saved(unittest.TestCase):
             self.assertEqual(cls.resume(suite, key, NONCE, bytearray(saved)).save(), saved)
 
     def test_another_key_or_nonce_is_refused(self):
-        """What goes on under another key or nonce could never be opened, and nobody would notice before."""
+        """A sealing that went on under another key or nonce could not be opened, and nobody would notice until then."""
         for state in kinds():
             cls, suite, key, saved = type(state), state.suite, key_of(state.suite), state.save()
             for place in (0, len(key) - 1):
@@ -161,7 +161,7 @@ class Saved(unittest.TestCase):
             self.assertEqual(cls.resume(suite, key, NONCE, saved).save(), saved)
 
     def test_any_numbers_are_safe(self):
-        """Behind a true mark and the key of the hash any bytes may stand: a call returns, or refuses."""
+        """Any bytes may follow a true mark and the key of the hash: each call returns, or refuses."""
         for state in kinds():
             suite, saved = state.suite, state.save()
             for filler in (b"\0", b"\xff", b"\x80", os.urandom(1)):
@@ -214,7 +214,7 @@ class Saved(unittest.TestCase):
             self.assertRaisesRegex(aeadkit.NotBegun, "closed", resumed.save)
 
     def test_a_saved_object_is_closed(self):
-        """What is saved goes on from its bytes alone, also beside calls in other threads."""
+        """A saved state goes on from its bytes alone, also if other threads call the object."""
         for state in kinds():
             memory = state._struct._memory
             state.save()
@@ -239,7 +239,7 @@ class Saved(unittest.TestCase):
                     pool.submit(update)
                 time.sleep(0.002)
                 saved = sealer.save()
-            # all that was sealed was sealed before the state was saved
+            # each piece that was sealed was sealed before the state was saved
             resumed, length = Sealer.resume(Suite.CHACHA20_POLY1305, KEY, NONCE, saved), 100 * len(pieces)
             if length + 100 <= len(expected):
                 self.assertEqual(resumed.update(bytes(100)), expected[length:length + 100])
@@ -257,7 +257,7 @@ class Stopped(Exception):
 
 
 class Example(unittest.TestCase):
-    """The example, stopped before or after each of its steps is on the disk."""
+    """The example, which is stopped before or after each of its steps is on the disk."""
 
     def setUp(self):
         folder = tempfile.TemporaryDirectory()
@@ -318,7 +318,7 @@ class Example(unittest.TestCase):
         self.assertEqual(self.opened(), TEXT)
 
     def test_two_runs_at_once(self):
-        """They would go on from one state, and seal two texts under one nonce if IN changes in between."""
+        """Two runs would go on from one state, and seal two texts under one nonce if IN changes in between."""
         self.source.write_bytes(TEXT)
         refused = []
 
@@ -333,7 +333,7 @@ class Example(unittest.TestCase):
         self.assertEqual(self.opened(), TEXT)
 
     def test_one_file(self):
-        """IN in the place of OUT would be overwritten before it is read."""
+        """If IN were also OUT, it would be overwritten before it is read."""
         self.source.write_bytes(TEXT)
         os.link(str(self.source), str(self.target))
         for target in (self.source, self.target):
@@ -341,7 +341,7 @@ class Example(unittest.TestCase):
             self.assertEqual(self.source.read_bytes(), TEXT)
 
     def test_an_output_that_changes(self):
-        """What was removed, cut or made longer would not be a sealing in the end, though its text may be gone by then."""
+        """If OUT was removed, cut or made longer, it would not be a sealing in the end, and its text may be gone by then."""
         self.source.write_bytes(TEXT)
         self.stop_at(3, True)
         self.assertRaises(Stopped, self.seal)
@@ -364,7 +364,7 @@ class Example(unittest.TestCase):
         self.assertEqual(self.target.read_bytes(), b"an earlier sealing")
 
     def test_another_key(self):
-        """A key file that was exchanged between two runs ends the second one, and the first key goes on."""
+        """If the key file is exchanged between two runs, the second run is refused, and a run with the first key goes on."""
         self.source.write_bytes(TEXT)
         self.stop_at(2, True)
         self.assertRaises(Stopped, self.seal)
@@ -374,7 +374,7 @@ class Example(unittest.TestCase):
         self.assertEqual(self.opened(), TEXT)
 
     def test_a_source_that_changes(self):
-        """Nothing that was seen is sealed again as something else, also if length and time do not show the change."""
+        """Bytes of OUT that were seen do not change, even if the length and the time of IN do not show that IN was changed."""
         self.example.state_of = lambda file: []
         self.source.write_bytes(TEXT)
         seen = b""

@@ -16,7 +16,7 @@ ROUNDS = 5
 
 
 def at_once(*calls):
-    """What the calls return, each in a thread of its own, begun at one time."""
+    """The results of calls that begin at the same time, each in its own thread."""
     barrier = threading.Barrier(len(calls))
 
     def run(call):
@@ -113,7 +113,7 @@ class Threads(unittest.TestCase):
                 self.assertTrue(all(pool.map(round_trip, range(500))))
 
     def test_begun_anew_beside_a_call(self):
-        """What __init__ begins anew is another struct than the one that a call in another thread goes on with."""
+        """__init__ begins a new struct, and a call in another thread goes on with the old one."""
         expected = seal(Suite.CHACHA20_POLY1305, bytes(LONG))
         for _ in range(ROUNDS):
             sealer = Sealer(Suite.CHACHA20_POLY1305, KEY, NONCE)
@@ -129,7 +129,7 @@ class Threads(unittest.TestCase):
             self.assertEqual(len(sealer.finish()), 16)
 
     def test_in_place(self):
-        """Pieces that are changed in place have two parts of the key stream too."""
+        """Two pieces that are changed in place have different parts of the key stream too."""
         suite = Suite.CHACHA20_POLY1305
         expected = seal(suite, bytes(2 * LONG))
         for _ in range(ROUNDS):
@@ -139,7 +139,7 @@ class Threads(unittest.TestCase):
             self.assertEqual(sealer.finish(), expected[-16:])
 
     def test_closed_beside_a_call(self):
-        """A struct is wiped after the last call that is using it, and no call works with zeros for a key."""
+        """A struct is wiped after the last call that uses it, and no call works with zeros as its key."""
         for suite in Suite:
             expected = seal(suite, bytes(LONG))
             for _ in range(ROUNDS):
@@ -187,7 +187,7 @@ class Threads(unittest.TestCase):
         self.assertEqual(sealer.finish(), expected[-16:])
 
     def test_a_piece_that_changes_meanwhile(self):
-        """The text is copied before the call, so it is one and the same for the ciphertext and the tag."""
+        """The text is copied before the call, so ciphertext and tag are made from the same bytes."""
         for suite in (Suite.CHACHA20_POLY1305, Suite.AES_128_GCM, Suite.AES_128_GCM_SIV):
             text, over = bytearray(LONG), threading.Event()
 

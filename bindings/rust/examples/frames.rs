@@ -23,7 +23,7 @@ const LAST: u32 = 1 << 31;
 pub struct End {
     key: Key,
     direction: u32,
-    /// The number of the next frame; none after the last frame, and after an error.
+    /// The number of the next frame; `None` after the last frame, and after an error.
     pub next: Option<u64>,
 }
 
@@ -56,7 +56,7 @@ impl End {
         Ok(())
     }
 
-    /// The text of the next frame. After the last one `next` is none.
+    /// The text of the next frame. After the last frame `next` is `None`.
     pub fn receive(&mut self, from: &mut impl Read) -> io::Result<Vec<u8>> {
         let (number, nonce) = self.take()?;
         let mut head = [0; HEAD];

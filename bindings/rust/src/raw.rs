@@ -145,7 +145,7 @@ pub struct Key {
 }
 
 impl Key {
-    /// All zeros: it keeps no key.
+    /// All zeros, without a key.
     pub fn new() -> Key {
         Key { private: [0; 101] }
     }

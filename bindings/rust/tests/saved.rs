@@ -86,7 +86,7 @@ fn an_opening_goes_on() {
             again.update(second).unwrap();
             again.finish().unwrap();
             assert_eq!(bytes, text());
-            // what was saved goes on too
+            // the state that was saved goes on too
             opener.check(&body[split..]).unwrap();
             assert!(opener.begin_second().is_ok());
         }
@@ -130,7 +130,7 @@ fn other_bytes_are_refused() {
     assert_eq!(Fault::NotSaved.to_string(), "not a saved state of this type, suite, key and nonce");
 }
 
-/// What would go on under another key or nonce, and could not be opened.
+/// Another key or nonce is refused: a sealing that went on under it could not be opened.
 #[test]
 fn another_key_or_nonce_is_refused() {
     for suite in Suite::ALL {
@@ -169,7 +169,7 @@ fn another_key_or_nonce_is_refused() {
     }
 }
 
-/// Nothing that is resumed panics, whatever the bytes behind the key of the hash are.
+/// No call on a resumed state panics, whatever bytes follow the key of the hash.
 #[test]
 fn any_bytes_are_taken() {
     let mut random = 1u64;
