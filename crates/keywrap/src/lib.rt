@@ -2,10 +2,10 @@
 //! `unwrap`, `wrap_padded` and `unwrap_padded` return a new vector. Their forms `_in_place` work in the caller's bytes, and
 //! their forms `_to` write to another output of the caller's; neither form allocates.
 //!
-//! Not constant time. Each step of an unwrapping decrypts a block, A and 8 bytes of the text, with `InverseKey::decrypt`. It
-//! looks up tables of 4 KiB by the bytes of the cipher's state, which the wrapping key and the wrapped text determine. A step
-//! of a wrapping looks up no table in memory. The checks of the unwrapped bytes may end at the first byte that differs. There
-//! is no nonce: under one key the same text has the same wrapping, so wrappings show which texts are equal.
+//! Not constant time. Each step encrypts or decrypts a block, A and 8 bytes of the text, with `AesKey::encrypt` or
+//! `InverseKey::decrypt`. These look up tables of 4 KiB by the bytes of the cipher's state, which the wrapping key and the
+//! wrapped text determine. The checks of the unwrapped bytes may end at the first byte that differs. There is no nonce: under
+//! one key the same text has the same wrapping, so wrappings show which texts are equal.
 //!
 //! From `crates/keywrap/src/uses.rt`:
 //! ```

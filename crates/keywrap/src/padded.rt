@@ -35,7 +35,7 @@ pub(crate) fn encrypt_register(key: &AesKey, bytes: &mut [u8])
     ensures { bytes.new ≡ transformed key.now bytes.old }
 {
     if bytes.len() == 16 {
-        bytes.copy_from_slice(key.encrypt_in_registers(&only_block(bytes)).bytes());
+        bytes.copy_from_slice(key.encrypt(&only_block(bytes)).bytes());
     } else {
         wrap_register(key, bytes);
     }

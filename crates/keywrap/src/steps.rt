@@ -79,7 +79,7 @@ fn wrap_step(key: &AesKey, t: u64, place: usize, first: &mut [u8; 8], blocks: &m
         ≡ step key.now t (register place first.old blocks.old) }
 {
     let block = join_halves(first, &blocks[place..place + 8]);
-    let (half, second) = halves(key.encrypt_in_registers(&Block::new(block)).bytes());
+    let (half, second) = halves(key.encrypt(&Block::new(block)).bytes());
     *first = xor_number(&half, t);
     blocks[place..place + 8].copy_from_slice(&second);
 }
