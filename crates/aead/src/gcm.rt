@@ -26,10 +26,10 @@ use std::marker::Model;
 /// AES-GCM under a key of 16, 24 or 32 bytes (SP 800-38D). Opening in place authenticates before it
 /// changes a byte. Contracts see its suite and key.
 ///
-/// Not constant time: secret bytes index tables. GHASH looks up two tables of 16 multiples of its key by the halves of each
-/// byte of a block XORed with the sum so far; for a long text it looks up 256 multiples of each of four powers of the key by
-/// the bytes of four blocks, the first of them XORed with the sum. Bytes of the key
-/// schedule index the S-box; AES looks up no other table in memory.
+/// Not constant time: secret bytes index tables. The S-box is looked up by bytes of the key schedule, and for single
+/// blocks AES's round tables, four of 256 words, by bytes of the state. GHASH looks up two tables of 16 multiples of its
+/// key by the halves of each byte of a block XORed with the sum so far; for a long text it looks up 256 multiples of each
+/// of four powers of the key by the bytes of four blocks, the first of them XORed with the sum.
 #[derive(Drop)]
 pub struct Gcm {
     key: AesKey,
@@ -144,12 +144,14 @@ impl Gcm {
 }
 
 /// Returns the hash subkey H of a key: the block of zeros under AES (SP 800-38D, 7.1). It is the key of GHASH, and secret.
+///
+/// Not constant time: AES looks up its round tables, four of 256 words, by bytes of the state.
 #[inline(always)]
 pub fn hash_subkey(key: &AesKey) -> Block
     ensures value { result ≡ hash_key key.now }
     ensures is_key { IsKey key.now }
 {
-    key.encrypt_in_registers(&Block::new([0; 16]))
+    key.encrypt(&Block::new([0; 16]))
 }
 
 // Returns the keys of the hash of a message: that of GHASH, and the block that the tag is masked with.
@@ -159,7 +161,7 @@ pub(crate) fn hash_keys(key: &AesKey, ghash_key: &Block, nonce: &Nonce) -> [u8; 
 {
     joined(
         ghash_key.bytes(),
-        key.encrypt_in_registers(&counter_block(nonce, 1)).bytes(),
+        key.encrypt(&counter_block(nonce, 1)).bytes(),
     )
 }
 
@@ -212,10 +214,7 @@ impl<'a, M: Multiply + Copy, K: KeptKey + Copy> OnePass for NoncedGcm<'a, M, K> 
     fn hash(&self) -> GhashTag<M> {
         GhashTag {
             hash: Ghash::with(self.multiplier),
-            mask: self
-                .key
-                .kept()
-                .encrypt_in_registers(&counter_block(self.nonce, 1)),
+            mask: self.key.kept().encrypt(&counter_block(self.nonce, 1)),
         }
     }
 
