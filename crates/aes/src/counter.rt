@@ -155,7 +155,7 @@ impl KnownBlock {
         if self.is_known && same(&self.block, block.bytes()) {
             return Block::new(self.cipher);
         }
-        key.encrypt_in_registers(block)
+        key.encrypt(block)
     }
 }
 
@@ -279,7 +279,7 @@ impl<C: Count> Counter<C> {
         ensures advances { Advances C.up key.now self.old self.new bytes.old bytes.new }
         ensures used { self.new.used ≡ length bytes.old % 16 }
     {
-        let mask = key.encrypt_in_registers(&C::block(&self.first, self.block_count));
+        let mask = key.encrypt(&C::block(&self.first, self.block_count));
         self.mask_with(mask.bytes(), bytes);
     }
 
@@ -486,7 +486,7 @@ impl<C: Count, K: KeptKey> Ctr<C, K> {
     /// alone. Two texts that are XORed with the same part of a stream give away their XOR. [`CtrBe`] and [`CtrLe`] say what
     /// else a repeat gives away.
     ///
-    /// It looks up no table in memory: see [`AesKey`].
+    /// Not constant time: single blocks go through `AesKey::encrypt`.
     #[inline(always)]
     pub fn new(key: K, first: &Block) -> Ctr<C, K>
         ensures { Holds C.up K.bytes result (K.bytes key) first.now 0 }

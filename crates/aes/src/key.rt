@@ -160,7 +160,7 @@ impl AesKey {
     /// Returns the block of 16 bytes that the cipher takes `block` to (FIPS 197, 5.1).
     ///
     /// Not constant time: each round but the last looks up four tables of 256 words by the 16 bytes of its state, and the last
-    /// looks up the S-box in the same tables. `encrypt_in_registers` returns the same and looks up none.
+    /// looks up the S-box in the same tables.
     pub fn encrypt(&self, block: &Block) -> Block
         ensures value { result ≡ cipher self.now block.now }
         ensures is_block { IsBlock result }

@@ -1,6 +1,6 @@
 //! AES with keys of 128, 192 and 256 bits, both ways (FIPS 197), and its streams of counting blocks (SP 800-38D, RFC 8452).
 //!
-//! Some calls are not constant time: [`AesKey`] says which table is looked up by which secret bytes.
+//! Most calls are not constant time: [`AesKey`] says which table is looked up by which secret bytes.
 //!
 //! From `crates/aes/src/uses.rt`:
 //! ```
