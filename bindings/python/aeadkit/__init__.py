@@ -40,7 +40,7 @@ such an object is deleted before that, without a with statement, there is a Reso
 if a generator is closed before that, within the with statement: what it yielded is a ciphertext without its tag then, or a text
 that is not to be used.
 
-The time that a call takes may depend on secrets: the key schedule of AES, GHASH, POLYVAL and key wrap look up tables by secret
+The time that a call takes may depend on secrets: AES, and the hashes of AES-GCM and AES-GCM-SIV, look up tables by secret
 bytes. A Key, a Sealer, an Opener and a SivSealer wipe the memory in which they hold the key when they are closed or deleted; a
 with statement closes them. The bytes of keys and texts that you pass or get are Python's own, and are not wiped.
 

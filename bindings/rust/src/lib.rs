@@ -36,7 +36,7 @@
 //! [`open`], [`unwrap`] or [`unwrap_padded`] fails to authenticate, its output is all zeros; and a second pass or reading in
 //! pieces may end with [`Fault::SourceChanged`] after it changed its pieces. Only the calls that return a vector allocate.
 //!
-//! Nothing is claimed about timing: the key schedule of AES, GHASH, POLYVAL and key wrap look up tables by secret bytes. [`Key`]
+//! Nothing is claimed about timing: AES, and the hashes of AES-GCM and AES-GCM-SIV, look up tables by secret bytes. [`Key`]
 //! and the states in pieces are wiped when they are dropped. The caller's slices, the stack, and the places that a key or a state
 //! was moved from are not.
 //!
