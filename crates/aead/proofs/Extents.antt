@@ -1,4 +1,4 @@
--- What is found when a reading is taken to its end.
+-- Facts about a reading that is taken to its end.
 use Rattle.std.proofs.Common.{◌≡◌, ℕ, List, [], ◌++◌, ◌≤◌, ◌<◌, inl, inr, Bool, false, length, take, refl}
 use Rattle.std.proofs.Common.{ap, ◌∙◌, sym, arith, Option, Some, None, subst, length-append}
 use Rattle.std.specs.Io.KnownBytes.{Consumes, Appends}

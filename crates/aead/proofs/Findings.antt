@@ -1,4 +1,4 @@
--- What is found when a whole reading has passed.
+-- Facts about a whole reading that has passed.
 use Rattle.std.proofs.Common.{◌≡◌, ℕ, List, [], ◌++◌, ◌≤◌, ◌<◌, ◌-◌, ◌⊎◌, inl, inr, Bool, true, false}
 use Rattle.std.proofs.Common.{length, take, drop, get_or, refl, ap, ◌∙◌, sym, arith, true≢false, Option}
 use Rattle.std.proofs.Common.{Some, None, subst, length-append}

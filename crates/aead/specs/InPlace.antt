@@ -1,4 +1,4 @@
--- What sealing and opening in place promise.
+-- The promises of sealing and opening in place.
 use Rattle.std.specs.Prelude.{◌≡◌, ℕ, List, ◌++◌, Result, MatchResult}
 use Rattle.octets.specs.declared.fault.Fault.{Fault}
 use Rattle.aead.specs.Sealing.{Setting, Opened}

@@ -53,7 +53,7 @@ impl ChaChaPoly {
         &self.key
     }
 
-    // Returns what a message needs: the key and the nonce.
+    // Returns the inputs of one message: the key and the nonce.
     pub(crate) fn nonced<'a>(&'a self, nonce: &'a Nonce) -> NoncedChaCha<'a>
         ensures keyed { ⟦<NoncedChaCha<'a> as OnePass>⟧.keyed result ≡ self.now }
         ensures nonce { ⟦<NoncedChaCha<'a> as OnePass>⟧.nonce result ≡ nonce.now }
@@ -144,7 +144,7 @@ pub(crate) fn first_half(start: &[u8]) -> [u8; 32]
     first
 }
 
-// What a message needs: the key and the nonce.
+// The inputs of one message: the key and the nonce.
 #[derive(Drop)]
 pub(crate) struct NoncedChaCha<'a> {
     key: &'a Key32,
@@ -175,7 +175,7 @@ impl<'a> OnePass for NoncedChaCha<'a> {
     ghost one_pass = { λ _. refl };
 }
 
-// What a whole message needs: the key, the nonce, and the first blocks of the key stream, from counter 0 on.
+// The inputs of one whole message: the key, the nonce, and the first blocks of the key stream, from counter 0 on.
 #[derive(Drop)]
 struct BufferedChaCha<'a> {
     key: &'a Key32,

@@ -102,7 +102,7 @@ impl Gcm {
         &self.key
     }
 
-    // Returns what a message needs: the cipher, the nonce, the key, which is held or borrowed, and a multiplier by the hash key.
+    // Returns the inputs of one message: the cipher, the nonce, the key, which is held or borrowed, and a multiplier by the hash key.
     pub(crate) fn nonced<'a, M: Multiply + Copy, K: KeptKey + Copy>(
         &self,
         nonce: &'a Nonce,
@@ -186,7 +186,7 @@ pub(crate) fn counter_block(nonce: &Nonce, counter: u8) -> Block
     Block::new(bytes)
 }
 
-// What a message needs: the suite, the key, the nonce, and a multiplier by the hash key.
+// The inputs of one message: the suite, the key, the nonce, and a multiplier by the hash key.
 #[derive(Drop)]
 pub(crate) struct NoncedGcm<'a, M: Multiply, K: KeptKey> {
     suite: Suite,
@@ -254,7 +254,7 @@ impl<'a> GcmKeys<'a> {
         }
     }
 
-    // Returns what a message needs, with this multiplier by the hash key.
+    // Returns the inputs of one message, with this multiplier by the hash key.
     #[inline(always)]
     fn nonced<'b, N: Multiply + Copy>(
         &self,

@@ -95,7 +95,7 @@ impl GcmSiv {
         DerivedKeys::new(self.suite, &self.key, nonce)
     }
 
-    // Returns what a message needs: the cipher, the nonce, the message's encryption key, and a multiplier by its
+    // Returns the inputs of one message: the cipher, the nonce, the message's encryption key, and a multiplier by its
     // authentication key.
     pub(crate) fn nonced<'a, M: Multiply + Copy, K: KeptKey + Copy>(
         &'a self,
@@ -197,7 +197,7 @@ pub(crate) fn mask_at<K: KeptKey>(
     CtrLe::at_known(encryption, &Block::new(counter_block(tag)), done, known)
 }
 
-// What a message needs: the suite, the key, the nonce, the message's encryption key, and a multiplier by its authentication key.
+// The inputs of one message: the suite, the key, the nonce, the message's encryption key, and a multiplier by its authentication key.
 #[derive(Drop)]
 pub(crate) struct NoncedGcmSiv<'a, M: Multiply, K: KeptKey> {
     suite: Suite,

@@ -29,7 +29,7 @@ pub(crate) trait MaskStream: Stream + Drop {
         self.apply_next(piece);
     }
 
-    // What a call of the stream does is to mask the next bytes.
+    // A call of the stream masks the next bytes.
     ghost masks: { (a b : Self) (was now : List ℕ) → Self.did a b was now → Masks made a b was now };
 }
 

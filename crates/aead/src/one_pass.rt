@@ -15,7 +15,7 @@ use crate::mask::MaskStream;
 use crate::suite::Suite;
 use octets::{Fault, Tag, same};
 
-// What a message under a cipher and a nonce needs: the mask of its text, and the hash of its ciphertext.
+// A message under a cipher and a nonce: it gives the mask of its text, and the hash of its ciphertext.
 pub(crate) trait OnePass {
     type Stream: MaskStream;
 

@@ -13,7 +13,7 @@ use crate::mask::MaskStream;
 use crate::suite::Suite;
 use octets::{Fault, Tag, same};
 
-// What a message under a cipher and a nonce needs: the hash of its text, and the mask that begins with the tag.
+// A message under a cipher and a nonce: it gives the hash of its text, and the mask that begins with the tag.
 pub(crate) trait TwoPass {
     type Stream: MaskStream;
 

@@ -1,4 +1,4 @@
--- What follows from the number of an outcome.
+-- Consequences of the number of an outcome.
 use Rattle.std.proofs.Common.{◌≡◌, ℕ, ◌∙◌, sym, arith, Result, Ok, Err, MatchResult}
 use Rattle.octets.specs.declared.fault.Fault.{Fault}
 use Rattle.octets.specs.declared.fault.Fault.TheVariants.{KeyLength, NonceLength, TextTooLong, AadTooLong}

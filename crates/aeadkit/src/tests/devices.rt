@@ -5,7 +5,7 @@ use command::Storage;
 use octets::{FromRead, ToWrite};
 use std::io;
 
-/// The same file at every path. If it opens, it gives its bytes, and then ends or fails with its failure. If not,
+/// A file that stands at every path. If it opens, it gives its bytes, and then ends or fails with its failure. If not,
 /// opening it fails with its failure.
 #[derive(Drop)]
 pub struct OneFile<'a> {

@@ -71,7 +71,7 @@ const OF_WORDS: &str = "\
 2 Words help frob
 2 Words seal --version";
 
-// The same path for both files is refused, whatever the suite is.
+// A command line with one path for both files is refused, whatever the suite is.
 const OF_PATHS: &str = "\
 2 Words seal-file --suite chacha20-poly1305 --key 808182838485868788898a8b8c8d8e8f909192939495969798999a9b9c9d9e9f \
     --nonce 070000004041424344454647 --aad 50515253c0c1c2c3c4c5c6c7 --in a --out a
