@@ -1,27 +1,10 @@
--- The cause of each refusal: a call's checks in their order. A fault that a call never returns stands at no check.
-use Rattle.std.specs.Prelude.{ℕ, ◌+◌, ◌^◌, ◌<◌, ◌≤◌, ◌==◌, Bool, true, false, ⊤, List, [], ◌∷◌, length, replicate}
-use Rattle.octets.specs.Numbers.{fault_number}
+-- The cause of each refusal: a call's checks in their order.
+use Rattle.std.specs.Prelude.{ℕ, ◌+◌, ◌^◌, ◌<◌, ◌≤◌, List, [], ◌∷◌, length, replicate}
 use Rattle.octets.specs.declared.fault.Fault.{Fault}
 use Rattle.octets.specs.declared.fault.Fault.TheVariants.{TextTooLong, WrapLength, WrapIntegrity, OutOfMemory}
+use Rattle.octets.specs.Refusals.{◌unless◌, perhaps, FirstOf}
 use Rattle.keywrap.specs.Wrapping.{HasTextLength, HasWrappedLength, IsWrapping}
 use Rattle.keywrap.specs.Padded.{HasBlocks, HasPaddedRoom, IsPaddedWrapping}
-
--- a check of a call: one that refuses with this fault unless something holds, or an allocation, which may fail at any time
-infix 70 ◌unless◌
-pub data Check : Type 1 where
-  ◌unless◌ : Fault → Type 0 → Check
-  perhaps : Fault → Check
-
--- the first of two statements if the test is true, else the second
-abbrev pub either : Bool → Type 0 → Type 0 → Type 0
-either true p q = p
-either false p q = q
-
--- the fault is that of the first check that fails: this one fails, and what those before it demand holds
-abbrev pub FirstOf : List Check → Fault → Type 0
-FirstOf [] e = ⊥
-FirstOf (f unless p ∷ checks) e = either (fault_number e == fault_number f) (¬ p) (p × FirstOf checks e)
-FirstOf (perhaps f ∷ checks) e = either (fault_number e == fault_number f) ⊤ (FirstOf checks e)
 
 -- why a text is not wrapped into a vector, which holds at most `most` bytes
 abbrev pub WrapRefused : ℕ → List ℕ → Fault → Type 0

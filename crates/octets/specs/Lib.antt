@@ -6,4 +6,5 @@ pub mod Masked
 pub mod Device
 pub mod Names
 pub mod Numbers
+pub mod Refusals
 pub mod Code
