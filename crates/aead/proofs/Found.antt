@@ -11,22 +11,20 @@ use Rattle.aead.specs.Refusals.{OpenRefused, WholeOpenRefused}
 -- the only fault whose cause fits a valid sealing is `OutOfMemory`
 refused_only : HasOneText → (s : Setting) (sealed text : List ℕ) → Opened s sealed text → (e : Fault)
     → WholeOpenRefused s sealed e → e ≡ OutOfMemory
-refused_only law s sealed text o AadTooLong h = let fits = o.fits.aad_fits in absurd (omega arith)
-refused_only law s sealed text o TooShort h = let long = (law s sealed text o).0 in let short = h.1 in
-    absurd (omega arith)
+refused_only law s sealed text o AadTooLong h = absurd (h o.fits.aad_fits)
+refused_only law s sealed text o TooShort h = let long = (law s sealed text o).0 in absurd (h.1 (omega arith))
 refused_only law s sealed text o TextTooLong h =
-    let long = (law s sealed text o).0 in let past = h.1 in let fits = o.fits.text_fits in
-    absurd (omega arith)
-refused_only law s sealed text o TagMismatch h = absurd (h.1 text o)
+    let long = (law s sealed text o).0 in let fits = o.fits.text_fits in absurd (h.1.1 (omega arith))
+refused_only law s sealed text o TagMismatch h = absurd (h.1.1.1 (text, o))
 refused_only law s sealed text o OutOfMemory h = refl
-refused_only law s sealed text o KeyLength h = absurd h
-refused_only law s sealed text o NonceLength h = absurd h
-refused_only law s sealed text o WrapLength h = absurd h
-refused_only law s sealed text o WrapIntegrity h = absurd h
-refused_only law s sealed text o StreamEnd h = absurd h
-refused_only law s sealed text o Read h = absurd h
-refused_only law s sealed text o Write h = absurd h
-refused_only law s sealed text o SourceChanged h = absurd h
+refused_only law s sealed text o KeyLength h = absurd h.1.1.1.1
+refused_only law s sealed text o NonceLength h = absurd h.1.1.1.1
+refused_only law s sealed text o WrapLength h = absurd h.1.1.1.1
+refused_only law s sealed text o WrapIntegrity h = absurd h.1.1.1.1
+refused_only law s sealed text o StreamEnd h = absurd h.1.1.1.1
+refused_only law s sealed text o Read h = absurd h.1.1.1.1
+refused_only law s sealed text o Write h = absurd h.1.1.1.1
+refused_only law s sealed text o SourceChanged h = absurd h.1.1.1.1
 
 -- so if a text was sealed, it is returned, or an allocation failed
 pub found : {T : Type 0} (items : T → List ℕ) → HasOneText
@@ -39,21 +37,21 @@ found items law s sealed (Err e) m text o = refused_only law s sealed text o e m
 -- no fault of opening in place has a cause that fits a valid sealing
 never_refused : HasOneText → (s : Setting) (body tag text : List ℕ) → length tag ≡ 16
     → Opened s (body ++ tag) text → (e : Fault) → OpenRefused s body tag e → ⊥
-never_refused law s body tag text long o AadTooLong h = let fits = o.fits.aad_fits in omega (arith, h, fits)
+never_refused law s body tag text long o AadTooLong h = h o.fits.aad_fits
 never_refused law s body tag text long o TextTooLong h =
     let size = (law s (body ++ tag) text o).0 in
-    omega (arith, size, length-append body tag, long, h.1, o.fits.text_fits)
-never_refused law s body tag text long o TagMismatch h = h.1 text o
-never_refused law s body tag text long o TooShort h = h
-never_refused law s body tag text long o OutOfMemory h = h
-never_refused law s body tag text long o KeyLength h = h
-never_refused law s body tag text long o NonceLength h = h
-never_refused law s body tag text long o WrapLength h = h
-never_refused law s body tag text long o WrapIntegrity h = h
-never_refused law s body tag text long o StreamEnd h = h
-never_refused law s body tag text long o Read h = h
-never_refused law s body tag text long o Write h = h
-never_refused law s body tag text long o SourceChanged h = h
+    h.1 (omega (arith, size, length-append body tag, long, o.fits.text_fits))
+never_refused law s body tag text long o TagMismatch h = h.1.1 (text, o)
+never_refused law s body tag text long o TooShort h = h.1.1.1
+never_refused law s body tag text long o OutOfMemory h = h.1.1.1
+never_refused law s body tag text long o KeyLength h = h.1.1.1
+never_refused law s body tag text long o NonceLength h = h.1.1.1
+never_refused law s body tag text long o WrapLength h = h.1.1.1
+never_refused law s body tag text long o WrapIntegrity h = h.1.1.1
+never_refused law s body tag text long o StreamEnd h = h.1.1.1
+never_refused law s body tag text long o Read h = h.1.1.1
+never_refused law s body tag text long o Write h = h.1.1.1
+never_refused law s body tag text long o SourceChanged h = h.1.1.1
 
 -- a valid sealing is opened in place, to its text
 pub found_in_place : HasOneText → (s : Setting) (body tag opened : List ℕ) (r : Result (Unit {0}) Fault)

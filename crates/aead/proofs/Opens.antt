@@ -124,7 +124,7 @@ seals_two_pass s text out tag two fits bytes f e =
 -- a body and a tag that is not the tag of its text are not a valid sealing
 pub no_sealing : (s : Setting) (body tag : List ℕ) → length tag ≡ 16
     → (tag_of s (unmasked s tag body) ≡ tag → ⊥) → IsNoSealing s (body ++ tag)
-no_sealing s body tag long other text o = other (sealed_only_if s body tag text long o.is).0
+no_sealing s body tag long other (text, o) = other (sealed_only_if s body tag text long o.is).0
 
 -- a body and the tag of its text are the sealing of that text
 pub opened_as : (s : Setting) (body tag text : List ℕ) → Fits s body

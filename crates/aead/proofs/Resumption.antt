@@ -4,7 +4,9 @@ use Rattle.std.proofs.lemmas.List.{take-append-drop}
 use Rattle.octets.specs.Bytes.{IsBlock}
 use Rattle.octets.specs.Bits.{g}
 use Rattle.octets.specs.declared.fault.Fault.{Fault}
-use Rattle.octets.specs.declared.fault.Fault.TheVariants.{KeyLength, NonceLength, AadTooLong}
+use Rattle.octets.specs.declared.fault.Fault.TheVariants.{KeyLength, NonceLength, TextTooLong, AadTooLong}
+use Rattle.octets.specs.declared.fault.Fault.TheVariants.{TooShort, TagMismatch, WrapLength, WrapIntegrity}
+use Rattle.octets.specs.declared.fault.Fault.TheVariants.{OutOfMemory, StreamEnd, Read, Write, SourceChanged}
 use Rattle.octets.proofs.Readings.{g_injective}
 use Rattle.gf128.specs.Orders.{Reversed, Serves}
 use Rattle.gf128.specs.Polyval.{IsMulX}
@@ -52,7 +54,7 @@ has_key n fresh suite key nonce bytes h e = λ aad.
 pub holds_none : (n fresh : PassState) (suite : Suite) (key nonce some : List ℕ) → IsBlock (take 16 n.hash_key)
     → IsBlock (take 16 fresh.hash_key) → HoldsNumbers fresh (setting_of suite key nonce []) some
     → (n.hash_key ≡ fresh.hash_key → ⊥) → HoldsNone n (setting_of suite key nonce)
-holds_none n fresh suite key nonce some nb fb h other = λ aad bytes held.
+holds_none n fresh suite key nonce some nb fb h other (aad, bytes, held) =
     other (one_hash_key (construction_of suite) n.hash_key fresh.hash_key (setting_of suite key nonce aad) nb fb
     held.hash_key_is (other_aad (construction_of suite) fresh.hash_key suite key nonce [] aad h.hash_key_is))
 
@@ -61,5 +63,14 @@ pub begin_refused : (n : PassState) (suite : Suite) (key nonce : List ℕ) (e : 
     → BeginRefused (setting_of suite key nonce []) e → ResumeRefused n suite key nonce e
 begin_refused n suite key nonce KeyLength h = h
 begin_refused n suite key nonce NonceLength h = h
-begin_refused n suite key nonce AadTooLong h = omega (arith, h.1)
-begin_refused n suite key nonce _ h = absurd h
+begin_refused n suite key nonce AadTooLong h = absurd (h.1.1 (omega arith))
+begin_refused n suite key nonce TextTooLong h = absurd h.1.1.1
+begin_refused n suite key nonce TooShort h = absurd h.1.1.1
+begin_refused n suite key nonce TagMismatch h = absurd h.1.1.1
+begin_refused n suite key nonce WrapLength h = absurd h.1.1.1
+begin_refused n suite key nonce WrapIntegrity h = absurd h.1.1.1
+begin_refused n suite key nonce OutOfMemory h = absurd h.1.1.1
+begin_refused n suite key nonce StreamEnd h = absurd h.1.1.1
+begin_refused n suite key nonce Read h = absurd h.1.1.1
+begin_refused n suite key nonce Write h = absurd h.1.1.1
+begin_refused n suite key nonce SourceChanged h = absurd h.1.1.1

@@ -99,7 +99,7 @@ exit_aad l o s read wrote past =
         early = λ _. refl;
         beginning = (0, refl);
         whole = λ e. absurd (cc);
-        answer = inl (past, refl, refl);
+        answer = inl (λ h. omega (arith, past, h), refl, refl);
       },
     ))
 
@@ -147,7 +147,7 @@ exit_long holds l l' o o' s k limit read read' wrote wrote' same one fits went k
               ∙ ap (take (length given)) all,
         );
         whole = λ e. absurd (cc);
-        answer = inl ((fits, past), kept.0, kept.1);
+        answer = inl ((fits, λ h. omega (arith, past, h)), kept.0, kept.1);
       },
     ))
 

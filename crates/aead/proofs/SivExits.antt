@@ -153,18 +153,18 @@ absorbed_known held s room a (Some rest) after all w =
 refused_at_all : (s : Setting) (a b : List ℕ) (f : Fault) → SealRefused s [] f
     → SivVerdict s a b (Err f) × (f ≡ AadTooLong)
 refused_at_all s a b AadTooLong h = (h, refl)
-refused_at_all s a b TextTooLong h = absurd (omega (arith, h.1))
-refused_at_all s a b KeyLength h = absurd h
-refused_at_all s a b NonceLength h = absurd h
-refused_at_all s a b TooShort h = absurd h
-refused_at_all s a b TagMismatch h = absurd h
-refused_at_all s a b WrapLength h = absurd h
-refused_at_all s a b WrapIntegrity h = absurd h
-refused_at_all s a b OutOfMemory h = absurd h
-refused_at_all s a b StreamEnd h = absurd h
-refused_at_all s a b Read h = absurd h
-refused_at_all s a b Write h = absurd h
-refused_at_all s a b SourceChanged h = absurd h
+refused_at_all s a b TextTooLong h = absurd (h.1 (omega arith))
+refused_at_all s a b KeyLength h = absurd h.1.1
+refused_at_all s a b NonceLength h = absurd h.1.1
+refused_at_all s a b TooShort h = absurd h.1.1
+refused_at_all s a b TagMismatch h = absurd h.1.1
+refused_at_all s a b WrapLength h = absurd h.1.1
+refused_at_all s a b WrapIntegrity h = absurd h.1.1
+refused_at_all s a b OutOfMemory h = absurd h.1.1
+refused_at_all s a b StreamEnd h = absurd h.1.1
+refused_at_all s a b Read h = absurd h.1.1
+refused_at_all s a b Write h = absurd h.1.1
+refused_at_all s a b SourceChanged h = absurd h.1.1
 
 -- the results if nothing was written
 nothing : (s : Setting) (a b : List ℕ) (before after : SivCounts) (f : Fault) →
@@ -223,7 +223,7 @@ exit_long held la lb o l' s after room x x' y z same fits kept w =
       [],
       appends_none o,
       nothing s a b (counts x) (counts x') TextTooLong
-          (inl ((fits, past), ap counts kept)),
+          (inl ((fits, λ h. omega (arith, past, h)), ap counts kept)),
     ))
 
 -- the results after the second reading was begun

@@ -187,7 +187,7 @@ written s m v w r Differs fits ver e h =
     (subst P (sym e) (fits, inr (ver.0, ver.1, λ both. h (agrees_to m w both.0))), λ q. absurd (cc))
 written s m v w r Unsealed fits ver e h =
     let P : Result (Unit {0}) Fault → Type 0 = λ x. Verdict s m v w x in
-    (subst P (sym e) (fits, inr (ver.0, ver.1, λ both. h.1 both.1.0 both.1.1)), λ q. absurd (cc))
+    (subst P (sym e) (fits, inr (ver.0, ver.1, λ both. h.1 both.1)), λ q. absurd (cc))
 written s m v w r Sealed fits ver e h =
     let P : Result (Unit {0}) Fault → Type 0 = λ x. Verdict s m v w x in
     (subst P (sym e) (fits, ver.0, ver.1, agrees_from m w fits.long h.0, (_, h.1)), λ q. h.1)

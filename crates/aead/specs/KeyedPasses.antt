@@ -1,16 +1,17 @@
 -- The key and the nonce of a message, as plain numbers.
-use Rattle.std.specs.Prelude.{◌≡◌, ◌≢◌, ℕ, ◌<◌, List, [], length, take, replicate}
+use Rattle.std.specs.Prelude.{◌≡◌, ℕ, ◌≤◌, List, [], ◌∷◌, length, take, replicate}
 use Rattle.octets.specs.Masked.{masked}
 use Rattle.aes.specs.declared.counter.KnownBlock.{KnownBlock}
 use Rattle.aes.specs.Code.Streams.{KnowsCipher}
 use Rattle.octets.specs.declared.fault.Fault.{Fault}
 use Rattle.octets.specs.declared.fault.Fault.TheVariants.{KeyLength, NonceLength, AadTooLong, TagMismatch}
+use Rattle.octets.specs.Refusals.{◌unless◌, FirstOf}
 use Rattle.aead.specs.declared.suite.Suite.{Suite}
 use Rattle.aead.specs.declared.key_and_nonce.KeyAndNonce.{KeyAndNonce}
 use Rattle.aead.specs.declared.pass_state.PassState.{PassState}
 use Rattle.aead.specs.Suites.{Construction, ByChaCha, ByGcm, ByGcmSiv, construction_of, key_length, aad_limit}
 use Rattle.aead.specs.Sealing.{Setting, encryption_key}
-use Rattle.aead.specs.PassStates.{HoldsNone}
+use Rattle.aead.specs.PassStates.{HoldsSome}
 
 -- the setting of a message, from a suite and the bytes that the caller hands in
 abbrev pub setting_of : Suite → (key nonce aad : List ℕ) → Setting
@@ -21,21 +22,15 @@ pub record HasLengths (s : Setting) : Type 0 where
   pub key_fits : length s.key ≡ key_length s.suite
   pub nonce_fits : length s.nonce ≡ 12
 
--- why a pass over a message is not begun: the length of the key, the nonce or the associated data is wrong, checked in this order
+-- why a pass over a message is not begun
 abbrev pub BeginRefused : Setting → Fault → Type 0
-BeginRefused s KeyLength = length s.key ≢ key_length s.suite
-BeginRefused s NonceLength = (length s.key ≡ key_length s.suite) × (length s.nonce ≢ 12)
-BeginRefused s AadTooLong = HasLengths s × (aad_limit s.suite < length s.aad)
-BeginRefused s _ = ⊥
+BeginRefused s = FirstOf (KeyLength unless (length s.key ≡ key_length s.suite)
+    ∷ NonceLength unless (length s.nonce ≡ 12) ∷ AadTooLong unless (length s.aad ≤ aad_limit s.suite) ∷ [])
 
--- why stored numbers are not resumed: the length of the key or the nonce is wrong, checked in this order, or the numbers are
--- not the state of any message under this key and nonce
+-- why stored numbers are not resumed
 abbrev pub ResumeRefused : PassState → Suite → (key nonce : List ℕ) → Fault → Type 0
-ResumeRefused n suite key nonce KeyLength = length key ≢ key_length suite
-ResumeRefused n suite key nonce NonceLength = (length key ≡ key_length suite) × (length nonce ≢ 12)
-ResumeRefused n suite key nonce TagMismatch = HasLengths (setting_of suite key nonce [])
-    × HoldsNone n (setting_of suite key nonce)
-ResumeRefused n suite key nonce _ = ⊥
+ResumeRefused n suite key nonce = FirstOf (KeyLength unless (length key ≡ key_length suite)
+    ∷ NonceLength unless (length nonce ≡ 12) ∷ TagMismatch unless HoldsSome n (setting_of suite key nonce) ∷ [])
 
 -- the key that the cipher of a message uses: for AES-GCM-SIV it is the derived message-encryption key
 abbrev pub cipher_key : Construction → Setting → List ℕ

@@ -1,29 +1,28 @@
--- Why a call is refused: one case for each fault that it returns. Lengths come first, in the order `AadTooLong`, `TooShort`,
--- `TextTooLong`, and the case of each says that the lengths before it fit. `OutOfMemory` and `TagMismatch` come only if all fit.
-use Rattle.std.specs.Prelude.{◌≡◌, ℕ, ◌+◌, ◌<◌, ◌≤◌, ◌⊎◌, List, [], ◌∷◌, ◌++◌, length, Result, MatchResult}
+-- Why a call is refused: its checks in their order, and for a call over devices also the device that failed.
+use Rattle.std.specs.Prelude.{◌≡◌, ℕ, ◌+◌, ◌≤◌, ◌⊎◌, List, [], ◌∷◌, ◌++◌, length, Result, MatchResult}
 use Rattle.std.specs.Prelude.{IfErr}
 use Rattle.octets.specs.declared.fault.Fault.{Fault}
 use Rattle.octets.specs.declared.fault.Fault.TheVariants.{TextTooLong, AadTooLong, TooShort, TagMismatch}
 use Rattle.octets.specs.declared.fault.Fault.TheVariants.{OutOfMemory, Read, Write, SourceChanged}
 use Rattle.octets.specs.Device.{Failed}
+use Rattle.octets.specs.Refusals.{◌unless◌, perhaps, FirstOf}
 use Rattle.aead.specs.Suites.{text_limit, aad_limit}
-use Rattle.aead.specs.Sealing.{Setting, Fits, IsNoSealing}
+use Rattle.aead.specs.Sealing.{Setting, IsSealing}
 
 -- why a text is not sealed in place
 abbrev pub SealRefused : Setting → List ℕ → Fault → Type 0
-SealRefused s text AadTooLong = aad_limit s.suite < length s.aad
-SealRefused s text TextTooLong = (length s.aad ≤ aad_limit s.suite) × (text_limit s.suite < length text)
-SealRefused s text _ = ⊥
+SealRefused s text = FirstOf (AadTooLong unless (length s.aad ≤ aad_limit s.suite)
+    ∷ TextTooLong unless (length text ≤ text_limit s.suite) ∷ [])
 
--- why a body and a tag are not opened in place: a length is past its limit, or they are not a valid sealing
+-- why a body and a tag are not opened in place
 abbrev pub OpenRefused : Setting → List ℕ → List ℕ → Fault → Type 0
-OpenRefused s body tag TagMismatch = Fits s body × IsNoSealing s (body ++ tag)
-OpenRefused s body tag fault = SealRefused s body fault
+OpenRefused s body tag = FirstOf (AadTooLong unless (length s.aad ≤ aad_limit s.suite)
+    ∷ TextTooLong unless (length body ≤ text_limit s.suite) ∷ TagMismatch unless IsSealing s (body ++ tag) ∷ [])
 
 -- why a text is not sealed as a whole
 abbrev pub WholeSealRefused : Setting → List ℕ → Fault → Type 0
-WholeSealRefused s text OutOfMemory = Fits s text
-WholeSealRefused s text fault = SealRefused s text fault
+WholeSealRefused s text = FirstOf (AadTooLong unless (length s.aad ≤ aad_limit s.suite)
+    ∷ TextTooLong unless (length text ≤ text_limit s.suite) ∷ perhaps OutOfMemory ∷ [])
 
 -- the sealed bytes are a body of an allowed length and a tag, and the associated data has an allowed length
 pub record FitsSealed (s : Setting) (sealed : List ℕ) : Type 0 where
@@ -33,13 +32,9 @@ pub record FitsSealed (s : Setting) (sealed : List ℕ) : Type 0 where
 
 -- why sealed bytes are not opened as a whole
 abbrev pub WholeOpenRefused : Setting → List ℕ → Fault → Type 0
-WholeOpenRefused s sealed AadTooLong = aad_limit s.suite < length s.aad
-WholeOpenRefused s sealed TooShort = (length s.aad ≤ aad_limit s.suite) × (length sealed < 16)
-WholeOpenRefused s sealed TextTooLong =
-    (length s.aad ≤ aad_limit s.suite) × (text_limit s.suite + 16 < length sealed)
-WholeOpenRefused s sealed OutOfMemory = FitsSealed s sealed
-WholeOpenRefused s sealed TagMismatch = FitsSealed s sealed × IsNoSealing s sealed
-WholeOpenRefused s sealed _ = ⊥
+WholeOpenRefused s sealed = FirstOf (AadTooLong unless (length s.aad ≤ aad_limit s.suite)
+    ∷ TooShort unless (16 ≤ length sealed) ∷ TextTooLong unless (length sealed ≤ text_limit s.suite + 16)
+    ∷ perhaps OutOfMemory ∷ TagMismatch unless IsSealing s sealed ∷ [])
 
 -- the fault is in this list
 abbrev pub IsOneOf : List Fault → Fault → Type 0

@@ -149,7 +149,7 @@ IsSealing s sealed = (text : List ℕ) × Opened s sealed text
 
 -- sealed is not a valid sealing: there is no text whose sealing it is
 abbrev pub IsNoSealing : Setting → List ℕ → Type 0
-IsNoSealing s sealed = (text : List ℕ) → ¬ Opened s sealed text
+IsNoSealing s sealed = ¬ IsSealing s sealed
 
 -- a sealing has only one text, which is sixteen bytes shorter
 abbrev pub HasOneText : Type 0

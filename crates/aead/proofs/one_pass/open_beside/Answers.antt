@@ -23,20 +23,21 @@ pub returns-clause-opened : goal.returns-clause-opened
 returns-clause-opened g c =
     let s : Setting = setting (g.N.OnePass.keyed c.args.message.now) (g.N.OnePass.nonce c.args.message.now)
     c.args.aad.now in
-    let fits : Fits s c.args.body.now =
-    record { aad_fits = c.requires.aad_fits; text_fits = c.requires.text_fits } in
     let mask = c.mask-mask.ensures c.args.aad.now c.args.tag.now in
     let hash = rw (sym c.empty-authenticator.ensures.0) at (c.hash.ensures c.args.aad.now) in
     let none = c.begin.ensures.holds s refl c.requires.aad_fits hash in
     let fed = c.step.ensures.step s c.args.tag.now [] mask none (omega (arith, c.requires.text_fits)) in (
-      fits,
-      no_sealing s c.args.body.now c.args.tag.now c.bytes-given.ensures.are_bytes.length_is
-          (λ e. true≢false
-          (sym (c.same.ensures.1
-          (c.bytes.ensures.value ∙ c.tag.ensures.tag s c.args.body.now fed.1
-          ∙ sym (body_tag s c.args.tag.now c.args.body.now (g.met.N.OnePass.one_pass c.args.message.now))
-          ∙ e ∙ sym c.bytes-given.ensures.value))
-          ∙ c.if-same.false)),
+      c.requires.aad_fits,
+      (
+        c.requires.text_fits,
+        no_sealing s c.args.body.now c.args.tag.now c.bytes-given.ensures.are_bytes.length_is
+            (λ e. true≢false
+            (sym (c.same.ensures.1
+            (c.bytes.ensures.value ∙ c.tag.ensures.tag s c.args.body.now fed.1
+            ∙ sym (body_tag s c.args.tag.now c.args.body.now (g.met.N.OnePass.one_pass c.args.message.now))
+            ∙ e ∙ sym c.bytes-given.ensures.value))
+            ∙ c.if-same.false)),
+      ),
     )
 
 pub returns-then-same-clause-masked : goal.returns-then-same-clause-masked

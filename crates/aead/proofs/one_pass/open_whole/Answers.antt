@@ -8,19 +8,20 @@ pub returns-then-not-same : goal.returns-then-not-same
 returns-then-not-same g c =
     let s : Setting = setting (g.N.OnePass.keyed c.args.message.now) (g.N.OnePass.nonce c.args.message.now)
     c.args.aad.now in
-    let fits : Fits s c.args.body.now =
-    record { aad_fits = c.requires.aad_fits; text_fits = c.requires.text_fits } in
     let hash = rw (sym c.empty-authenticator.ensures.0) at (c.hash.ensures c.args.aad.now) in
     let begun = c.begin.ensures.holds s refl c.requires.aad_fits hash in
-    let taken = c.update.ensures.holds s [] begun (omega (arith, fits.text_fits)) in
+    let taken = c.update.ensures.holds s [] begun (omega (arith, c.requires.text_fits)) in
     let tag_is : c.bytes.result.now ≡ tag_of s (unmasked s c.args.tag.now c.args.body.now) =
     c.bytes.ensures.value ∙ c.tag.ensures.tag s c.args.body.now taken
     ∙ sym (body_tag s c.args.tag.now c.args.body.now (g.met.N.OnePass.one_pass c.args.message.now)) in (
       (
-        fits,
-        no_sealing s c.args.body.now c.args.tag.now c.bytes-given.ensures.are_bytes.length_is
-            (λ e. true≢false (sym (c.same.ensures.1 (tag_is ∙ e ∙ sym c.bytes-given.ensures.value))
-            ∙ c.if-not-same.true)),
+        c.requires.aad_fits,
+        (
+          c.requires.text_fits,
+          no_sealing s c.args.body.now c.args.tag.now c.bytes-given.ensures.are_bytes.length_is
+              (λ e. true≢false (sym (c.same.ensures.1 (tag_is ∙ e ∙ sym c.bytes-given.ensures.value))
+              ∙ c.if-not-same.true)),
+        ),
       ),
       refl {a = c.args.body.now},
     )

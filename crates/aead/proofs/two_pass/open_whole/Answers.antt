@@ -33,8 +33,6 @@ pub returns : goal.returns
 returns g c =
     let s : Setting = setting (g.N.TwoPass.keyed c.args.message.now) (g.N.TwoPass.nonce c.args.message.now)
     c.args.aad.now in
-    let fits : Fits s c.args.body.now =
-    record { aad_fits = c.requires.aad_fits; text_fits = c.requires.text_fits } in
     let two = ap is_one_pass (g.met.N.TwoPass.by_gcm_siv c.args.message.now) in
     let f : ℕ → ℕ = mask_of s c.args.tag.now in
     let P : List ℕ → Type 0 = λ x. HoldsAuthenticator g.N.Hash.TagHash.held c.begin.new.self s x in
@@ -42,19 +40,22 @@ returns g c =
     let none = subst P (sym (none_hashed MaskFirst (mask_of s c.args.tag.now)))
     (c.begin.ensures.holds s refl c.requires.aad_fits hash) in
     let fed = c.step.ensures.step s c.args.tag.now [] (c.mask-mask.ensures c.args.aad.now) none
-    (omega (arith, fits.text_fits)) in
+    (omega (arith, c.requires.text_fits)) in
     let tag_is : tag_of s (unmasked s c.args.tag.now c.args.body.now) ≡ c.tag.result =
     two_pass_tag s (unmasked s c.args.tag.now c.args.body.now) two
     ∙ sym (c.tag.ensures.tag s _ fed.1) in
     let long : length c.step.new.piece ≤ text_limit s.suite =
-    omega (arith, ap length fed.2, length-masked f 0 c.args.body.now, fits.text_fits) in (
+    omega (arith, ap length fed.2, length-masked f 0 c.args.body.now, c.requires.text_fits) in (
       (
-        fits,
-        no_sealing s c.args.body.now c.args.tag.now c.bytes-given.ensures.are_bytes.length_is
-            (λ e. true≢false
-            (sym (c.same.ensures.1
-            (c.bytes.ensures.value ∙ sym tag_is ∙ e ∙ sym c.bytes-given.ensures.value))
-            ∙ c.if-same.false)),
+        c.requires.aad_fits,
+        (
+          c.requires.text_fits,
+          no_sealing s c.args.body.now c.args.tag.now c.bytes-given.ensures.are_bytes.length_is
+              (λ e. true≢false
+              (sym (c.same.ensures.1
+              (c.bytes.ensures.value ∙ sym tag_is ∙ e ∙ sym c.bytes-given.ensures.value))
+              ∙ c.if-same.false)),
+        ),
       ),
       (c.apply_to.ensures s c.args.tag.now 0 (c.mask.ensures c.args.aad.now) (omega (arith, long))).1
           ∙ ap (masked f 0) fed.2

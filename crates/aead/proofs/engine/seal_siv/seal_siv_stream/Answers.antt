@@ -20,7 +20,7 @@ returns-in_err-check_aad-clause-seals g c =
       second = g.J.Intake.failures c.args.second.now;
       outlet = g.O.Outlet.failures c.args.out.now;
     })
-    AadTooLong (omega (arith, c.in_err-check_aad.ensures.1, ap aad_limit c.suite.ensures.value)))
+    AadTooLong (λ h. omega (arith, h, c.in_err-check_aad.ensures.1, ap aad_limit c.suite.ensures.value)))
 
 pub returns-clause-seals : goal.returns-clause-seals
 returns-clause-seals g c = c.seal_by.ensures.seals

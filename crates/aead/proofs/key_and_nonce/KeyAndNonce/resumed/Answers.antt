@@ -8,9 +8,12 @@ pub returns-then-not-has_hash_key_of-clause-answer : goal.returns-then-not-has_h
 returns-then-not-has_hash_key_of-clause-answer c =
     let fresh = c.in-Ok.ensures.answer in
     let found = c.has_hash_key_of.ensures in (
-      fresh.0.lengths,
-      holds_none c.args.state.now c.begin.new.state c.args.suite c.args.key.now c.args.nonce.now _ found.are_blocks.0
-          found.are_blocks.1 fresh.1 (λ e. true≢false (sym (found.same.1 e) ∙ c.if-not-has_hash_key_of.true)),
+      fresh.0.lengths.key_fits,
+      (
+        fresh.0.lengths.nonce_fits,
+        holds_none c.args.state.now c.begin.new.state c.args.suite c.args.key.now c.args.nonce.now _ found.are_blocks.0
+            found.are_blocks.1 fresh.1 (λ e. true≢false (sym (found.same.1 e) ∙ c.if-not-has_hash_key_of.true)),
+      ),
     )
 
 pub returns-clause-answer : goal.returns-clause-answer

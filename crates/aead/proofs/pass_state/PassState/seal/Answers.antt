@@ -8,8 +8,9 @@ use Rattle.aead.proofs.pass_state.PassState.seal.Goals as goal
 pub returns-then-not-has_room-clause-answer : goal.returns-then-not-has_room-clause-answer
 returns-then-not-has_room-clause-answer c = λ s text k one h _. (
   (h []).fits.aad_fits,
-  omega (
+  λ fits. omega (
     arith,
+    fits,
     length-append text c.args.piece.now,
     text_length c.args.self.now s text h,
     ap text_limit_by k.by,

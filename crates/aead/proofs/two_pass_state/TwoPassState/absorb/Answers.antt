@@ -5,8 +5,9 @@ use Rattle.aead.proofs.two_pass_state.TwoPassState.absorb.Goals as goal
 pub returns-then-not-has_room-clause-answer : goal.returns-then-not-has_room-clause-answer
 returns-then-not-has_room-clause-answer c = λ s text k n. (
   n.pass.fits.aad_fits,
-  omega (
+  λ fits. omega (
     arith,
+    fits,
     length-append text c.args.piece.now,
     n.pass.length_is,
     ap text_limit_by k.by,

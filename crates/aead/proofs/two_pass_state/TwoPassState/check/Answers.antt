@@ -8,8 +8,9 @@ use Rattle.aead.proofs.two_pass_state.TwoPassState.check.Goals as goal
 pub returns-then-not-has_room-clause-answer : goal.returns-then-not-has_room-clause-answer
 returns-then-not-has_room-clause-answer c = λ s tag body k n. (
   n.pass.fits.aad_fits,
-  omega (
+  λ fits. omega (
     arith,
+    fits,
     length-append body c.args.piece.now,
     taken_length c.args.self.now.pass s tag body n.pass,
     ap text_limit_by k.by,
