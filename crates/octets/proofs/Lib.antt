@@ -1,5 +1,6 @@
 pub mod Sums
 pub mod Numbers
+pub mod Refusals
 pub mod Blocks
 pub mod Xors
 pub mod Sequence
