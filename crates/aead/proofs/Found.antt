@@ -1,11 +1,14 @@
 -- A valid sealing is refused only with `OutOfMemory`.
-use Rattle.std.proofs.Common.{◌≡◌, ℕ, List, ◌++◌, length, refl, arith, length-append, Result, Ok, Err}
-use Rattle.std.proofs.Common.{MatchResult}
+use Rattle.std.proofs.Common.{◌≡◌, ◌≤◌, ℕ, List, [], ◌∷◌, ◌++◌, length, refl, arith, length-append}
+use Rattle.std.proofs.Common.{Result, Ok, Err, MatchResult}
 use Rattle.octets.specs.declared.fault.Fault.{Fault}
 use Rattle.octets.specs.declared.fault.Fault.TheVariants.{KeyLength, NonceLength, TextTooLong, AadTooLong}
 use Rattle.octets.specs.declared.fault.Fault.TheVariants.{TooShort, TagMismatch, WrapLength, WrapIntegrity}
 use Rattle.octets.specs.declared.fault.Fault.TheVariants.{OutOfMemory, StreamEnd, Read, Write, SourceChanged}
-use Rattle.aead.specs.Sealing.{Setting, Opened, HasOneText}
+use Rattle.octets.specs.Refusals.{Check, ◌unless◌}
+use Rattle.octets.proofs.Refusals.{passed}
+use Rattle.aead.specs.Suites.{text_limit, aad_limit}
+use Rattle.aead.specs.Sealing.{Setting, Opened, IsSealing, HasOneText}
 use Rattle.aead.specs.Refusals.{OpenRefused, WholeOpenRefused}
 
 -- the only fault whose cause fits a valid sealing is `OutOfMemory`
@@ -34,24 +37,18 @@ pub found : {T : Type 0} (items : T → List ℕ) → HasOneText
 found items law s sealed (Ok v) m text o = (law s sealed text o).1 (items v) m
 found items law s sealed (Err e) m text o = refused_only law s sealed text o e m
 
--- no fault of opening in place has a cause that fits a valid sealing
+-- every check of opening in place passes for a valid sealing
 never_refused : HasOneText → (s : Setting) (body tag text : List ℕ) → length tag ≡ 16
     → Opened s (body ++ tag) text → (e : Fault) → OpenRefused s body tag e → ⊥
-never_refused law s body tag text long o AadTooLong h = h o.fits.aad_fits
-never_refused law s body tag text long o TextTooLong h =
+never_refused law s body tag text long o e h =
     let size = (law s (body ++ tag) text o).0 in
-    h.1 (omega (arith, size, length-append body tag, long, o.fits.text_fits))
-never_refused law s body tag text long o TagMismatch h = h.1.1 (text, o)
-never_refused law s body tag text long o TooShort h = h.1.1.1
-never_refused law s body tag text long o OutOfMemory h = h.1.1.1
-never_refused law s body tag text long o KeyLength h = h.1.1.1
-never_refused law s body tag text long o NonceLength h = h.1.1.1
-never_refused law s body tag text long o WrapLength h = h.1.1.1
-never_refused law s body tag text long o WrapIntegrity h = h.1.1.1
-never_refused law s body tag text long o StreamEnd h = h.1.1.1
-never_refused law s body tag text long o Read h = h.1.1.1
-never_refused law s body tag text long o Write h = h.1.1.1
-never_refused law s body tag text long o SourceChanged h = h.1.1.1
+    let fits : length body ≤ text_limit s.suite =
+    omega (arith, size, length-append body tag, long, o.fits.text_fits) in
+    let of_tag : List Check = TagMismatch unless IsSealing s (body ++ tag) ∷ [] in
+    passed TagMismatch (IsSealing s (body ++ tag)) [] e (text, o)
+    (passed TextTooLong (length body ≤ text_limit s.suite) of_tag e fits
+    (passed AadTooLong (length s.aad ≤ aad_limit s.suite)
+    (TextTooLong unless (length body ≤ text_limit s.suite) ∷ of_tag) e o.fits.aad_fits h))
 
 -- a valid sealing is opened in place, to its text
 pub found_in_place : HasOneText → (s : Setting) (body tag opened : List ℕ) (r : Result (Unit {0}) Fault)

@@ -1,20 +1,20 @@
 -- Facts about stored numbers with which a pass is resumed.
-use Rattle.std.proofs.Common.{◌≡◌, ℕ, ◌++◌, ◌∙◌, List, [], take, drop, sym, ap₂, subst, arith}
+use Rattle.std.proofs.Common.{◌≡◌, ◌≤◌, ℕ, ◌++◌, ◌∙◌, List, [], ◌∷◌, length, take, drop, sym, ap₂, subst, arith}
 use Rattle.std.proofs.lemmas.List.{take-append-drop}
 use Rattle.octets.specs.Bytes.{IsBlock}
 use Rattle.octets.specs.Bits.{g}
 use Rattle.octets.specs.declared.fault.Fault.{Fault}
-use Rattle.octets.specs.declared.fault.Fault.TheVariants.{KeyLength, NonceLength, TextTooLong, AadTooLong}
-use Rattle.octets.specs.declared.fault.Fault.TheVariants.{TooShort, TagMismatch, WrapLength, WrapIntegrity}
-use Rattle.octets.specs.declared.fault.Fault.TheVariants.{OutOfMemory, StreamEnd, Read, Write, SourceChanged}
+use Rattle.octets.specs.declared.fault.Fault.TheVariants.{KeyLength, NonceLength, AadTooLong, TagMismatch}
+use Rattle.octets.specs.Refusals.{Check, ◌unless◌, FirstOf}
+use Rattle.octets.proofs.Refusals.{passed, then}
 use Rattle.octets.proofs.Readings.{g_injective}
 use Rattle.gf128.specs.Orders.{Reversed, Serves}
 use Rattle.gf128.specs.Polyval.{IsMulX}
 use Rattle.aead.specs.declared.suite.Suite.{Suite}
 use Rattle.aead.specs.declared.pass_state.PassState.{PassState}
-use Rattle.aead.specs.Suites.{Construction, ByChaCha, ByGcm, ByGcmSiv, construction_of}
+use Rattle.aead.specs.Suites.{Construction, ByChaCha, ByGcm, ByGcmSiv, construction_of, key_length, aad_limit}
 use Rattle.aead.specs.Sealing.{Setting, authentication_key}
-use Rattle.aead.specs.PassStates.{IsHashKey, HoldsNumbers, HoldsNone, HasHashKey}
+use Rattle.aead.specs.PassStates.{IsHashKey, HoldsNumbers, HoldsSome, HoldsNone, HasHashKey}
 use Rattle.aead.specs.KeyedPasses.{setting_of, BeginRefused, ResumeRefused}
 
 -- only one block is the key of a multiplier that serves POLYVAL under a key
@@ -61,16 +61,10 @@ holds_none n fresh suite key nonce some nb fb h other (aad, bytes, held) =
 -- a fault that refuses to begin without associated data refuses to resume, for the same cause
 pub begin_refused : (n : PassState) (suite : Suite) (key nonce : List ℕ) (e : Fault)
     → BeginRefused (setting_of suite key nonce []) e → ResumeRefused n suite key nonce e
-begin_refused n suite key nonce KeyLength h = h
-begin_refused n suite key nonce NonceLength h = h
-begin_refused n suite key nonce AadTooLong h = absurd (h.1.1 (omega arith))
-begin_refused n suite key nonce TextTooLong h = absurd h.1.1.1
-begin_refused n suite key nonce TooShort h = absurd h.1.1.1
-begin_refused n suite key nonce TagMismatch h = absurd h.1.1.1
-begin_refused n suite key nonce WrapLength h = absurd h.1.1.1
-begin_refused n suite key nonce WrapIntegrity h = absurd h.1.1.1
-begin_refused n suite key nonce OutOfMemory h = absurd h.1.1.1
-begin_refused n suite key nonce StreamEnd h = absurd h.1.1.1
-begin_refused n suite key nonce Read h = absurd h.1.1.1
-begin_refused n suite key nonce Write h = absurd h.1.1.1
-begin_refused n suite key nonce SourceChanged h = absurd h.1.1.1
+begin_refused n suite key nonce e =
+    let of_aad : List Check = AadTooLong unless (0 ≤ aad_limit suite) ∷ [] in
+    let of_state : List Check = TagMismatch unless HoldsSome n (setting_of suite key nonce) ∷ [] in
+    let of_nonce : Check = NonceLength unless (length nonce ≡ 12) in
+    then (KeyLength unless (length key ≡ key_length suite)) (FirstOf (of_nonce ∷ of_aad)) (FirstOf (of_nonce ∷ of_state)) e
+    (then of_nonce (FirstOf of_aad) (FirstOf of_state) e
+    (λ h. absurd (passed AadTooLong (0 ≤ aad_limit suite) [] e (omega arith) h)))

@@ -6,9 +6,8 @@ use Rattle.std.proofs.lemmas.List.{take_all, take-take, append-nil}
 use Rattle.std.proofs.Math.Seq.{take-append-add}
 use Rattle.std.specs.Io.KnownBytes.{Appends}
 use Rattle.octets.specs.declared.fault.Fault.{Fault}
-use Rattle.octets.specs.declared.fault.Fault.TheVariants.{Read, Write, KeyLength, NonceLength, TextTooLong}
-use Rattle.octets.specs.declared.fault.Fault.TheVariants.{AadTooLong, TooShort, TagMismatch, WrapLength}
-use Rattle.octets.specs.declared.fault.Fault.TheVariants.{WrapIntegrity, OutOfMemory, StreamEnd}
+use Rattle.octets.specs.declared.fault.Fault.TheVariants.{Read, Write, TextTooLong}
+use Rattle.octets.specs.declared.fault.Fault.TheVariants.{AadTooLong}
 use Rattle.octets.specs.declared.fault.Fault.TheVariants.{SourceChanged}
 use Rattle.octets.specs.Device.{Failed}
 use Rattle.octets.specs.Masked.{masked}
@@ -17,7 +16,7 @@ use Rattle.octets.proofs.Masks.{take-masked}
 use Rattle.aead.specs.declared.authenticator.Authenticator.{Authenticator}
 use Rattle.aead.specs.Suites.{text_limit, aad_limit}
 use Rattle.aead.specs.Sealing.{Setting, Fits, mask_of, tag_of}
-use Rattle.aead.specs.Refusals.{SealRefused, DueToReading, DueToBoth}
+use Rattle.aead.specs.Refusals.{DueToReading, DueToBoth}
 use Rattle.aead.specs.Pieces.{Repeats}
 use Rattle.aead.specs.Code.States.{HoldsAuthenticator}
 use Rattle.aead.specs.Code.Maskings.{Task, repeating_task}
@@ -149,23 +148,6 @@ absorbed_known held s room a (Some rest) after all w =
       λ e. omega (arith, w.long e, ap length w.consumed, length-append w.bytes rest),
     )
 
--- a fault that refuses the empty text is the verdict for any two readings, and it is `AadTooLong`
-refused_at_all : (s : Setting) (a b : List ℕ) (f : Fault) → SealRefused s [] f
-    → SivVerdict s a b (Err f) × (f ≡ AadTooLong)
-refused_at_all s a b AadTooLong h = (h, refl)
-refused_at_all s a b TextTooLong h = absurd (h.1 (omega arith))
-refused_at_all s a b KeyLength h = absurd h.1.1
-refused_at_all s a b NonceLength h = absurd h.1.1
-refused_at_all s a b TooShort h = absurd h.1.1
-refused_at_all s a b TagMismatch h = absurd h.1.1
-refused_at_all s a b WrapLength h = absurd h.1.1
-refused_at_all s a b WrapIntegrity h = absurd h.1.1
-refused_at_all s a b OutOfMemory h = absurd h.1.1
-refused_at_all s a b StreamEnd h = absurd h.1.1
-refused_at_all s a b Read h = absurd h.1.1
-refused_at_all s a b Write h = absurd h.1.1
-refused_at_all s a b SourceChanged h = absurd h.1.1
-
 -- the results if nothing was written
 nothing : (s : Setting) (a b : List ℕ) (before after : SivCounts) (f : Fault) →
     (SivVerdict s a b (Err f) × (after ≡ before))
@@ -179,16 +161,11 @@ nothing s a b before after f answer =
       answer = elim answer [ inl v ↦ inl v | inr v ↦ inr (inl (ap Err v.0, v.1)) ];
     }
 
-pub exit_refused : (la lb o : Option (List ℕ)) (s : Setting) (before : SivCounts) (f : Fault)
-    → SealRefused s [] f
-    → IfBothKnown la lb o o (λ a b given. SealsSivStream s a b given before before (Err f))
-exit_refused la lb o s before f h =
+pub exit_aad : (la lb o : Option (List ℕ)) (s : Setting) (before : SivCounts) → ¬ (length s.aad ≤ aad_limit s.suite)
+    → IfBothKnown la lb o o (λ a b given. SealsSivStream s a b given before before (Err AadTooLong))
+exit_aad la lb o s before past =
     if_both_known la lb o o (λ _. Unit {0}) (λ _. Unit {0}) _ (any_bytes la) (any_bytes lb)
-    (λ a b _ _. (
-      [],
-      appends_none o,
-      nothing s a b before before f (inl ((refused_at_all s a b f h).0, refl)),
-    ))
+    (λ a b _ _. ([], appends_none o, nothing s a b before before AadTooLong (inl (past, refl))))
 
 pub exit_first : (la lb o : Option (List ℕ)) (s : Setting) (x x' y z : ℕ) (f : Fault)
     → DueToReading {T = Bool} [] x x' (Err f)

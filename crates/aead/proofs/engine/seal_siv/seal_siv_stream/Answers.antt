@@ -4,7 +4,7 @@ use Rattle.octets.specs.declared.fault.Fault.TheVariants.{AadTooLong}
 use Rattle.aead.specs.Suites.{aad_limit}
 use Rattle.aead.specs.Sealing.{Setting}
 use Rattle.aead.specs.Ciphers.{setting}
-use Rattle.aead.proofs.SivExits.{exit_refused}
+use Rattle.aead.proofs.SivExits.{exit_aad}
 use Rattle.aead.proofs.engine.seal_siv.seal_siv_stream.Goals as goal
 
 pub returns-in_err-check_aad-clause-seals : goal.returns-in_err-check_aad-clause-seals
@@ -13,14 +13,14 @@ returns-in_err-check_aad-clause-seals g c =
     let p = err_from_is_err_and c.from_residual.result c.from_residual.ensures.1 in
     let e : c.from_residual.result ≡ Err AadTooLong =
     p.1 ∙ ap Err (p.2 ∙ c.in_err-check_aad.ensures.0) in
-    rw e (exit_refused (g.I.Intake.left c.args.first.now) (g.J.Intake.left c.args.second.now)
+    rw e (exit_aad (g.I.Intake.left c.args.first.now) (g.J.Intake.left c.args.second.now)
     (g.O.Outlet.taken c.args.out.now) s
     (record {
       first = g.I.Intake.failures c.args.first.now;
       second = g.J.Intake.failures c.args.second.now;
       outlet = g.O.Outlet.failures c.args.out.now;
     })
-    AadTooLong (λ h. omega (arith, h, c.in_err-check_aad.ensures.1, ap aad_limit c.suite.ensures.value)))
+    (λ h. omega (arith, h, c.in_err-check_aad.ensures.1, ap aad_limit c.suite.ensures.value)))
 
 pub returns-clause-seals : goal.returns-clause-seals
 returns-clause-seals g c = c.seal_by.ensures.seals
