@@ -240,7 +240,7 @@ wrote s a b o o' x x' y y' z z' r fits kept w =
             early = λ p. absurd (not_early p);
             beginning = inl (length text, sym (take_all (length text) text (omega arith)));
             whole = λ e. absurd (cc (d.0));
-            answer = inl (subst P (sym d.0) (fits, d.1), cc (kept, d.3, d.4));
+            answer = inl (subst P (sym d.0) (fits.aad_fits, (fits.text_fits, d.1)), cc (kept, d.3, d.4));
           },
         )
         | inr more ↦ elim more [

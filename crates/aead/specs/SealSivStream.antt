@@ -1,14 +1,15 @@
 -- The result of the engine that seals in two readings, and the bytes that it writes.
-use Rattle.std.specs.Prelude.{◌≡◌, ℕ, ◌<◌, ◌⊎◌, List, [], ◌++◌, length, take, Option, Some, Result, Ok, Err}
-use Rattle.std.specs.Prelude.{IfSome}
+use Rattle.std.specs.Prelude.{◌≡◌, ℕ, ◌<◌, ◌≤◌, ◌⊎◌, List, [], ◌∷◌, ◌++◌, length, take, Option, Some, Result}
+use Rattle.std.specs.Prelude.{Ok, Err, MatchResult, IfSome}
 use Rattle.std.specs.Io.KnownBytes.{Appends}
 use Rattle.octets.specs.declared.fault.Fault.{Fault}
-use Rattle.octets.specs.declared.fault.Fault.TheVariants.{Read, Write, SourceChanged}
+use Rattle.octets.specs.declared.fault.Fault.TheVariants.{TextTooLong, AadTooLong, Read, Write, SourceChanged}
+use Rattle.octets.specs.Refusals.{◌unless◌, FirstOf}
 use Rattle.octets.specs.Device.{Failed}
 use Rattle.octets.specs.Masked.{masked}
 use Rattle.aead.specs.Suites.{text_limit, aad_limit}
 use Rattle.aead.specs.Sealing.{Setting, Fits, mask_of, tag_of}
-use Rattle.aead.specs.Refusals.{SealRefused, DueTo}
+use Rattle.aead.specs.Refusals.{DueTo}
 use Rattle.aead.specs.Pieces.{Repeats}
 use Rattle.aead.specs.Verdict.{IsBeginning}
 
@@ -32,9 +33,9 @@ WritesAgain s a b taken taken' read read' wrote wrote' r =
 
 -- the result that the two readings determine
 abbrev pub SivVerdict : Setting → List ℕ → List ℕ → Result (Unit {0}) Fault → Type 0
-SivVerdict s a b (Ok _) = Fits s a × Repeats s a b
-SivVerdict s a b (Err SourceChanged) = Fits s a × ¬ (Repeats s a b)
-SivVerdict s a b (Err e) = SealRefused s a e
+SivVerdict s a b r =
+    MatchResult r (λ _. Fits s a × Repeats s a b) (FirstOf (AadTooLong unless (length s.aad ≤ aad_limit s.suite)
+    ∷ TextTooLong unless (length a ≤ text_limit s.suite) ∷ SourceChanged unless Repeats s a b ∷ []))
 
 -- the counts of failures of the three devices
 pub record SivCounts : Type 0 where

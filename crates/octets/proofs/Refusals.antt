@@ -1,5 +1,5 @@
 -- Consequences of the order of a call's checks.
-use Rattle.std.proofs.Common.{Bool, true, false, List, ◌∷◌}
+use Rattle.std.proofs.Common.{Bool, true, false, List, [], ◌∷◌, ◌++◌}
 use Rattle.std.specs.Prelude.{◌==◌, ⊤}
 use Rattle.octets.specs.declared.fault.Fault.{Fault}
 use Rattle.octets.specs.Numbers.{fault_number}
@@ -26,3 +26,8 @@ then (f unless p) P Q e follows h =
     weaker (fault_number e == fault_number f) (¬ p) (p × P e) (p × Q e) (λ x. (x.0, follows x.1)) h
 then (perhaps f) P Q e follows h = weaker (fault_number e == fault_number f) ⊤ (P e) (Q e) follows h
 then (demands p) P Q e follows h = (h.0, follows h.1)
+
+-- a fault of some checks is a fault of them and more
+pub more : (checks after : List Check) (e : Fault) → FirstOf checks e → FirstOf (checks ++ after) e
+more [] after e h = absurd h
+more (check ∷ checks) after e h = then check (FirstOf checks) (FirstOf (checks ++ after)) e (more checks after e) h
