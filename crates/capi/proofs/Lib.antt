@@ -1,4 +1,5 @@
 mod Outcomes
+mod Refused
 mod Marks
 mod Names
 mod Tested

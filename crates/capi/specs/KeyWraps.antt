@@ -1,12 +1,12 @@
 -- The outcomes of the calls for C that wrap and unwrap into another output (RFC 3394; RFC 5649).
-use Rattle.std.specs.Prelude.{◌≡◌, ◌≢◌, ℕ, ◌+◌, ◌-◌, ◌%◌, ◌^◌, ◌≤◌, List, length}
+use Rattle.std.specs.Prelude.{◌≡◌, ◌≢◌, ℕ, ◌+◌, ◌-◌, ◌%◌, ◌^◌, ◌≤◌, List, [], ◌∷◌, length}
 use Rattle.octets.specs.declared.fault.Fault.{Fault}
-use Rattle.octets.specs.declared.fault.Fault.TheVariants.{WrapIntegrity}
+use Rattle.octets.specs.declared.fault.Fault.TheVariants.{TextTooLong, WrapLength, WrapIntegrity}
+use Rattle.octets.specs.Refusals.{◌unless◌, demands, FirstOf}
 use Rattle.aes.specs.Cipher.{IsKey, IsKeyLength}
-use Rattle.keywrap.specs.Wrapping.{HasTextLength, HasWrappedLength, Unwrapped}
-use Rattle.keywrap.specs.Padded.{HasPaddableLength, HasBlocks, UnwrappedPadded, UnwrappedPaddedTo}
-use Rattle.keywrap.specs.Refusals.{left_at, WrapToRefused, UnwrapToRefused}
-use Rattle.keywrap.specs.Refusals.{PaddedWrapToRefused, PaddedUnwrapToRefused}
+use Rattle.keywrap.specs.Wrapping.{HasTextLength, HasWrappedLength, Unwrapped, IsWrapping}
+use Rattle.keywrap.specs.Padded.{HasPaddableLength, HasBlocks, UnwrappedPadded, UnwrappedPaddedTo, IsPaddedWrapping}
+use Rattle.keywrap.specs.Refusals.{left_at, WrapToRefused, PaddedWrapToRefused}
 use Rattle.capi.specs.Suites.{output_length, HasOutcomeOr}
 use Rattle.capi.specs.Refusals.{KeyedRefused}
 
@@ -19,11 +19,10 @@ WrapsTo status key text wrapped wrapped' =
     ((wrapped' ≡ wrapped) × IsKeyLength (length key) × HasTextLength text
     × (length wrapped ≢ length text + 8))
 
--- why bytes are not unwrapped into an output for their text: a length is not allowed, or they are not a valid wrapping
+-- why bytes are not unwrapped into an output for their text, whose length has a status of its own
 abbrev pub WrappedRefused : (key wrapped text : List ℕ) → Fault → Type 0
-WrappedRefused key wrapped text WrapIntegrity =
-    (length wrapped ≡ length text + 8) × UnwrapToRefused key wrapped WrapIntegrity
-WrappedRefused key wrapped text fault = UnwrapToRefused key wrapped fault
+WrappedRefused key wrapped text = FirstOf (WrapLength unless HasWrappedLength wrapped
+    ∷ demands (length wrapped ≡ length text + 8) ∷ WrapIntegrity unless IsWrapping key wrapped ∷ [])
 
 -- the status of unwrapping into an output (RFC 3394, 2.2.2): either the output is the text; or nothing is unwrapped; or the
 -- output is not as long as the text, and is as it was
@@ -43,12 +42,11 @@ WrapsPaddedTo status key text wrapped wrapped' =
     ((wrapped' ≡ wrapped) × IsKeyLength (length key) × HasPaddableLength text
     × (length wrapped ≢ 8 + (length text + (8 - length text % 8) % 8)))
 
--- why bytes are not unwrapped with padding into an output for their text: a length is not allowed, or they are not a valid
--- wrapping
+-- why bytes are not unwrapped with padding into an output for their text, whose length has a status of its own
 abbrev pub PaddedRefused : (key wrapped text : List ℕ) → Fault → Type 0
-PaddedRefused key wrapped text WrapIntegrity =
-    (length wrapped ≡ length text + 8) × PaddedUnwrapToRefused key wrapped WrapIntegrity
-PaddedRefused key wrapped text fault = PaddedUnwrapToRefused key wrapped fault
+PaddedRefused key wrapped text = FirstOf (WrapLength unless HasBlocks wrapped
+    ∷ TextTooLong unless (length wrapped ≤ 2 ^ 32 + 8) ∷ demands (length wrapped ≡ length text + 8)
+    ∷ WrapIntegrity unless IsPaddedWrapping key wrapped ∷ [])
 
 -- the status of unwrapping with padding into an output and a number n (RFC 5649, 4.2): either these become the text with the
 -- zeros of its padding, and the text's length; or nothing is unwrapped, and n is as it was; or the output is not 8 bytes shorter

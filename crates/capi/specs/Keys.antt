@@ -1,7 +1,8 @@
 -- Keys that are kept in C's memory: the mark and the bytes.
-use Rattle.std.specs.Prelude.{◌≡◌, ◌≢◌, ℕ, ◌+◌, List, length, take}
+use Rattle.std.specs.Prelude.{◌≡◌, ℕ, ◌+◌, List, [], ◌∷◌, length, take}
 use Rattle.octets.specs.declared.fault.Fault.{Fault}
 use Rattle.octets.specs.declared.fault.Fault.TheVariants.{KeyLength}
+use Rattle.octets.specs.Refusals.{◌unless◌, FirstOf}
 use Rattle.aead.specs.declared.suite.Suite.{Suite}
 use Rattle.aead.specs.Suites.{key_length, suite_number}
 
@@ -13,6 +14,6 @@ key_mark suite = 0x6369706865720200 + suite_number suite
 abbrev pub first_key : Suite → List ℕ → List ℕ
 first_key suite bytes = take (key_length suite) bytes
 
--- why a key is not kept: it does not have the suite's length
+-- why a key is not kept
 abbrev pub KeyRefused : Suite → List ℕ → Fault → Type 0
-KeyRefused suite key fault = (fault ≡ KeyLength) × (length key ≢ key_length suite)
+KeyRefused suite key = FirstOf (KeyLength unless (length key ≡ key_length suite) ∷ [])

@@ -1,22 +1,26 @@
 -- The outcomes of the calls for C on whole messages.
-use Rattle.std.specs.Prelude.{◌≡◌, ◌≢◌, ℕ, ◌+◌, ◌<◌, ◌≤◌, List, ◌++◌, length, replicate}
+use Rattle.std.specs.Prelude.{◌≡◌, ◌≢◌, ℕ, ◌+◌, ◌≤◌, List, [], ◌∷◌, ◌++◌, length, replicate}
 use Rattle.octets.specs.declared.fault.Fault.{Fault}
 use Rattle.octets.specs.declared.fault.Fault.TheVariants.{KeyLength, NonceLength, TextTooLong, AadTooLong}
-use Rattle.octets.specs.declared.fault.Fault.TheVariants.{TooShort, TagMismatch, WrapLength, WrapIntegrity}
-use Rattle.octets.specs.declared.fault.Fault.TheVariants.{OutOfMemory, StreamEnd, Read, Write, SourceChanged}
-use Rattle.aead.specs.Suites.{text_limit, aad_limit}
-use Rattle.aead.specs.Sealing.{Setting, Fits, Opened, IsNoSealing}
+use Rattle.octets.specs.declared.fault.Fault.TheVariants.{TooShort, TagMismatch}
+use Rattle.octets.specs.Refusals.{Check, ◌unless◌, demands, FirstOf}
+use Rattle.octets.proofs.Refusals.{more}
+use Rattle.aead.specs.Suites.{key_length, text_limit, aad_limit}
+use Rattle.aead.specs.Sealing.{Setting, Fits, Opened, IsSealing}
 use Rattle.aead.specs.Refusals.{FitsSealed}
-use Rattle.aead.specs.KeyedPasses.{HasLengths, BeginRefused}
+use Rattle.aead.specs.KeyedPasses.{HasLengths}
 use Rattle.capi.specs.Suites.{output_length, HasOutcomeOr}
 
 -- ---- in place, with the tag apart
 
--- why a text is not sealed, whatever its bytes are: the first of these lengths that does not fit
+-- the checks of the lengths of a message in place
+abbrev pub length_checks : Setting → List ℕ → List Check
+length_checks s text = KeyLength unless (length s.key ≡ key_length s.suite) ∷ NonceLength unless (length s.nonce ≡ 12)
+    ∷ AadTooLong unless (length s.aad ≤ aad_limit s.suite) ∷ TextTooLong unless (length text ≤ text_limit s.suite) ∷ []
+
+-- why a text is not sealed, whatever its bytes are
 abbrev pub LengthRefused : Setting → List ℕ → Fault → Type 0
-LengthRefused s text TextTooLong =
-    HasLengths s × (length s.aad ≤ aad_limit s.suite) × (text_limit s.suite < length text)
-LengthRefused s text fault = BeginRefused s fault
+LengthRefused s text = FirstOf (length_checks s text)
 
 -- a text became its ciphertext, and has this tag
 abbrev pub WasSealed : Setting → (text text' tag' : List ℕ) → Type 0
@@ -30,27 +34,14 @@ WasNotSealed s text tag text' tag' fault = (text' ≡ text) × (tag' ≡ tag) ×
 abbrev pub WasOpened : Setting → (text tag text' : List ℕ) → Type 0
 WasOpened s text tag text' = HasLengths s × Opened s (text ++ tag) text'
 
--- why a ciphertext and a tag are not opened: a length does not fit, or they are not a valid sealing
+-- why a ciphertext and a tag are not opened
 abbrev pub BodyRefused : Setting → (text tag : List ℕ) → Fault → Type 0
-BodyRefused s text tag TagMismatch = HasLengths s × Fits s text × IsNoSealing s (text ++ tag)
-BodyRefused s text tag fault = LengthRefused s text fault
+BodyRefused s text tag = FirstOf (length_checks s text ++ TagMismatch unless IsSealing s (text ++ tag) ∷ [])
 
 -- if a length does not fit for sealing a text, it does not fit for opening a ciphertext
 pub length_refuses : (s : Setting) (text tag : List ℕ) (fault : Fault) → LengthRefused s text fault
     → BodyRefused s text tag fault
-length_refuses s text tag KeyLength h = h
-length_refuses s text tag NonceLength h = h
-length_refuses s text tag TextTooLong h = h
-length_refuses s text tag AadTooLong h = h
-length_refuses s text tag TooShort h = h
-length_refuses s text tag TagMismatch h = absurd h
-length_refuses s text tag WrapLength h = h
-length_refuses s text tag WrapIntegrity h = h
-length_refuses s text tag OutOfMemory h = h
-length_refuses s text tag StreamEnd h = h
-length_refuses s text tag Read h = h
-length_refuses s text tag Write h = h
-length_refuses s text tag SourceChanged h = h
+length_refuses s text tag = more (length_checks s text) (TagMismatch unless IsSealing s (text ++ tag) ∷ [])
 
 -- a ciphertext and a tag were not opened, and no byte was changed
 abbrev pub WasNotOpened : Setting → (text tag text' : List ℕ) → Fault → Type 0
@@ -66,15 +57,12 @@ SealsTo status s text sealed sealed' =
     (λ e. (sealed' ≡ sealed) × LengthRefused s text e)
     ((sealed' ≡ sealed) × HasLengths s × Fits s text × (length sealed ≢ length text + 16))
 
--- why bytes are not opened into an output for their text: a length does not fit, or they are not a valid sealing
+-- why bytes are not opened into an output for their text, whose length has a status of its own
 abbrev pub SealedRefused : Setting → (sealed text : List ℕ) → Fault → Type 0
-SealedRefused s sealed text TooShort =
-    HasLengths s × (length s.aad ≤ aad_limit s.suite) × (length sealed < 16)
-SealedRefused s sealed text TextTooLong =
-    HasLengths s × (length s.aad ≤ aad_limit s.suite) × (text_limit s.suite + 16 < length sealed)
-SealedRefused s sealed text TagMismatch =
-    HasLengths s × FitsSealed s sealed × (length sealed ≡ length text + 16) × IsNoSealing s sealed
-SealedRefused s sealed text fault = BeginRefused s fault
+SealedRefused s sealed text = FirstOf (KeyLength unless (length s.key ≡ key_length s.suite)
+    ∷ NonceLength unless (length s.nonce ≡ 12) ∷ AadTooLong unless (length s.aad ≤ aad_limit s.suite)
+    ∷ TooShort unless (16 ≤ length sealed) ∷ TextTooLong unless (length sealed ≤ text_limit s.suite + 16)
+    ∷ demands (length sealed ≡ length text + 16) ∷ TagMismatch unless IsSealing s sealed ∷ [])
 
 -- the output after a fault: zeros if the sealing is not valid, else as it was
 abbrev pub left_at : Fault → List ℕ → List ℕ

@@ -11,7 +11,7 @@ returns-then-key-key_length-clause-known c = λ named is.
       Err KeyLength,
       (
         c.outcome_number.ensures,
-        (refl, λ e. c.if-key-key_length.true (e ∙ sym (c.key_length.ensures ∙ ap key_length same))),
+        λ e. c.if-key-key_length.true (e ∙ sym (c.key_length.ensures ∙ ap key_length same)),
       ),
     )
 
