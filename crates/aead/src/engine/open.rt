@@ -13,27 +13,14 @@ ghost use Rattle.aead.specs.Code.Findings.{PassedWhole};
 
 use crate::aead::Aead;
 use crate::any::{AnyAead, AnyOnePass};
+use crate::engine::discard::Discard;
 use crate::engine::measure::Measured;
 use crate::engine::opening::pass_opening;
 use crate::engine::passes::Finding;
 use crate::engine::verifying::verify_one_pass;
 use crate::suite::Suite;
 use gf128::WideMul;
-use octets::{DeviceFault, Fault, Intake, Nonce, Outlet};
-
-// An outlet that drops every byte.
-#[derive(Drop)]
-struct Discard;
-
-impl Outlet for Discard {
-    ghost taken = { λ _. None };
-
-    ghost failures = { λ _. 0 };
-
-    fn give(&mut self, bytes: &[u8]) -> Result<usize, DeviceFault> {
-        Ok(bytes.len())
-    }
-}
+use octets::{Fault, Intake, Nonce, Outlet};
 
 // The first step: measures the length and the tag.
 fn measure_step<I: Intake>(suite: Suite, intake: &mut I) -> Result<Measured, Fault>
