@@ -1,13 +1,16 @@
 -- Pieces of a pass, one after the other.
 use Rattle.std.proofs.Common.{◌≡◌, ℕ, zero, suc, List, [], ◌∷◌, ◌++◌, ◌≤◌, ◌<◌, ◌+◌, length, take, get_or}
-use Rattle.std.proofs.Common.{refl, ap, ap₂, ◌∙◌, sym, arith, append_assoc, Option, subst, length-append}
+use Rattle.std.proofs.Common.{refl, inl, inr, Err, ap, ap₂, ◌∙◌, sym, arith, append_assoc, Option, subst, length-append}
 use Rattle.std.proofs.lemmas.List.{append-nil}
 use Rattle.std.proofs.Math.Seq.{take-append-add}
 use Rattle.std.specs.Int.Bits.{xor_zero_r}
 use Rattle.std.specs.Io.KnownBytes.{Consumes, Appends}
+use Rattle.octets.specs.declared.fault.Fault.{Fault}
+use Rattle.octets.specs.Device.{Failed}
 use Rattle.octets.specs.Masked.{masked}
 use Rattle.octets.proofs.Devices.{consumes_none, consumes_more, appends_none, appends_more}
 use Rattle.octets.proofs.Masks.{length-masked, masked-append}
+use Rattle.aead.specs.Refusals.{DueToBoth}
 use Rattle.aead.specs.Code.Passes.{HasPassed, HasFilledRoom, Stopped}
 
 -- if all numbers of two lists are below 256, so are those of both joined
@@ -113,3 +116,13 @@ stopped mask fed bytes out room n l l' o o' consumed fits is within given =
       short = omega arith;
       given = subst P is given;
     }
+
+-- if a pass failed whose outlet never fails, the reading failed
+pub reading_failed : (T : Type 0) (read read' : ℕ) (f : Fault) → DueToBoth {T = T} [] read read' 0 0 (Err f)
+    → Failed read read'
+reading_failed T read read' f due =
+    elim due [
+      | inl b ↦ absurd b.0
+      | inr (inl b) ↦ b.1
+      | inr (inr b) ↦ absurd (elim b.1 [ inl q ↦ omega (arith, q) | inr q ↦ omega (arith, q) ])
+    ]

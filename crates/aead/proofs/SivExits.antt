@@ -25,6 +25,7 @@ use Rattle.aead.specs.Code.Extents.{HasPassedAll}
 use Rattle.aead.specs.SealSivStream.{again, WritesAgain, SivVerdict, SivCounts, SealsSivStream}
 use Rattle.aead.specs.SealSivStream.{IfBothKnown}
 use Rattle.aead.proofs.Extents.{all_known, all_stopped_known}
+use Rattle.aead.proofs.Passing.{reading_failed}
 use Rattle.aead.proofs.SealExits.{told}
 
 -- ---- the second reading
@@ -181,8 +182,7 @@ pub exit_first : (la lb o : Option (List ℕ)) (s : Setting) (x x' y z : ℕ) (f
     (λ a b given. SealsSivStream s a b given (record { first = x; second = y; outlet = z })
     (record { first = x'; second = y; outlet = z }) (Err Read))
 exit_first la lb o s x x' y z f due =
-    let failed : Failed x x' =
-    elim due [ inl b ↦ absurd b.0 | inr (inl b) ↦ b.1 | inr (inr b) ↦ absurd (elim b.1 [ inl q ↦ omega (arith, q) | inr q ↦ omega (arith, q) ]) ] in
+    let failed = reading_failed (Option ℕ) x x' f due in
     if_both_known la lb o o (λ _. Unit {0}) (λ _. Unit {0}) _ (any_bytes la) (any_bytes lb)
     (λ a b _ _. (
       [],
@@ -280,7 +280,7 @@ pub exit_second : {H : Type 0} (held : H → Setting → List ℕ → Type 0) (m
     (la lb o o' l' p p' : Option (List ℕ)) (s : Setting) (k : Authenticator H) (room n x x' y y' z z' : ℕ)
     (r : Result (Unit {0}) Fault)
     → x' ≡ x → HasPassedAll (λ a fed. HoldsAuthenticator held a s fed) mask room la l' p p' k (Some n)
-    → ((a : List ℕ) → HoldsAuthenticator held k s a → IfSome lb (λ b. WritesAgain s a b o o' y y' z z' r))
+    → ((a : List ℕ) → HoldsAuthenticator held k s a → length a ≡ n → IfSome lb (λ b. WritesAgain s a b o o' y y' z z' r))
     → IfBothKnown la lb o o'
     (λ a b given. SealsSivStream s a b given (record { first = x; second = y; outlet = z })
     (record { first = x'; second = y'; outlet = z' }) r)
@@ -289,7 +289,7 @@ exit_second held mask (Some a) lb o o' l' p p' s k room n x x' y y' z z' r kept 
     let t = all_known (λ a fed. HoldsAuthenticator held a s fed) mask room a l' p p' k (Some n) w in
     let Q : List ℕ → Type 0 = λ x. HoldsAuthenticator held k s x in
     let h = subst Q (take_all room a (omega (arith, t.2.0, t.2.1))) t.1 in
-    if_both_known (Some a) lb o o' (λ m. m ≡ a) (λ b. WritesAgain s a b o o' y y' z z' r) _ refl (f a h)
+    if_both_known (Some a) lb o o' (λ m. m ≡ a) (λ b. WritesAgain s a b o o' y y' z z' r) _ refl (f a h t.2.0)
     (λ m b e t.
     let P : List ℕ → Type 0 =
     λ q. (given : List ℕ) × Appends o o' given

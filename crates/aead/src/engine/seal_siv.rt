@@ -96,8 +96,7 @@ fn seal_over<N: TwoPass, I: Intake, J: Intake, O: Outlet>(
         message.suite().text_limit(),
         &mut Discard,
     ) {
-        Ok(Some(_)) => {
-            let length = reading.length;
+        Ok(Some(length)) => {
             let tag = reading.finish();
             let mut again = Masking::empty(
                 Order::HashFirst,

@@ -39,7 +39,7 @@ returns-in-Ok-Some-clause-seals g c =
     let went = rw c.in-Ok-Some.field-0-is at (c.in-Ok-Some.ensures.passed s h (omega (arith, limit))) in
     let by = g.met.N.TwoPass.by_gcm_siv c.args.message.now in
     exit_second _ _ _ _ _ _ _ _ _ s _ _ _ _ _ _ _ _ _ _ c.in-Ok-Some.ensures.blame.0 went
-    (λ a held.
+    (λ a held size.
     let tag_is : c.finish-tag.result ≡ tag_of s a =
     c.finish-tag.ensures s a held ∙ sym (two_pass_tag s a (ap is_one_pass by)) in
     let empty = c.empty-again.ensures in
@@ -49,4 +49,4 @@ returns-in-Ok-Some-clause-seals g c =
     let P : List ℕ → Type 0 = λ t. g.N.Stream.MaskStream.made c.empty-again.result.mask s t 0 in
     c.write_again.ensures.written s a by tag_is
     (c.begin-in-Ok-Some.ensures.holds (repeating_task s a) empty.order (subst P tag_is made) again refl c.requires
-    (empty.limit ∙ held.length_is) held.fits.text_fits))
+    (empty.limit ∙ sym size) held.fits.text_fits))
