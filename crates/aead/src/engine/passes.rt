@@ -1,10 +1,9 @@
-//! One pass over a reading: each piece goes through a stage, as one that masks and authenticates it, and is given before the
-//! next one is taken.
+//! One pass over a reading, piece by piece: a stage takes in each piece, which is given before the next one is taken. To
+//! measure, to verify and to write differ in their stage and their outlet.
 
-ghost use Rattle.std.specs.Prelude.{◌≡◌, ℕ, ◌+◌, ◌<◌, ◌≤◌, List, [], length, Option, IfOk};
+ghost use Rattle.std.specs.Prelude.{ℕ, ◌+◌, ◌<◌, ◌≤◌, List, [], length, Option, IfOk};
 ghost use Rattle.octets.specs.declared.work.Order.{Order};
 ghost use Rattle.aead.specs.Refusals.{DueToReading, DueToBoth};
-ghost use Rattle.aead.specs.Suites.{text_limit};
 ghost use Rattle.aead.specs.Sealing.{Setting};
 ghost use Rattle.aead.specs.Code.Masks.{hashed_by};
 ghost use Rattle.aead.specs.Code.Maskings.{HoldsMasking, message_task};
@@ -31,7 +30,7 @@ pub(crate) enum Finding {
 ghost use Rattle.aead.specs.Code.Findings.{PassedWhole, PassesBody, MakesTextTag, Ends};
 ghost use Rattle.aead.specs.Code.Extents.{PassedAll, HasMore};
 
-// Passes one piece: fills the buffer as far as the reading goes, and gives the bytes as the stage leaves them.
+// Passes one piece: fills the buffer as far as the reading goes, and gives the bytes as the stage has left them.
 fn pass_piece<I: Intake, S: Stage, O: Outlet>(
     intake: &mut I,
     stage: &mut S,

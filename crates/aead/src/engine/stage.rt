@@ -1,4 +1,4 @@
-//! What a stream engine does with the pieces of a reading: it masks and authenticates them, or only authenticates them.
+//! The stages of a pass over a reading: what is done with each piece. Two of them are here, and `measure` has the third.
 
 ghost use Rattle.std.specs.Prelude.{◌≡◌, ◌+◌, ◌-◌, ◌<◌, ◌≤◌, ◌^◌, ◌++◌, ℕ, List, length};
 ghost use Rattle.octets.specs.Masked.{masked};
@@ -13,24 +13,24 @@ use crate::hashes::TagHash;
 use crate::mask::MaskStream;
 use crate::masking::Masking;
 
-// The stage of a pass between the reading and the outlet. It takes in each piece before the next one is read.
+// The stage of a pass, between the reading and the outlet: it takes in each piece, and may mask it before it is given.
 pub(crate) trait Stage {
-    // A message whose pieces it takes in.
+    // What the message is whose pieces it takes in.
     ghost Message: { Type 0 };
 
     // The most bytes that the pieces of a message may have together.
     ghost limit: { Message → ℕ };
 
-    // The stream of bytes that are XORed into the pieces of a message.
+    // The bytes that are XORed into the pieces of a message: zeros, if the pieces stay as they are.
     ghost mask: { Message → ℕ → ℕ };
 
-    // It belongs to a message and has taken in these bytes of it.
+    // It belongs to a message and has taken in these bytes of its pieces.
     ghost holds: { Message → Self → List ℕ → Type 0 };
 
-    // It can still take in any number of bytes below this one, whatever the message.
+    // It can still take in fewer bytes than this, whatever the message.
     ghost room: { Self → ℕ };
 
-    // Takes in the next piece, and masks it in place.
+    // Takes in the next piece, and XORs the mask into it.
     fn take_in(&mut self, piece: &mut [u8])
         requires { length piece.old < room self.old }
         ensures holds { (m : Message) (fed : List ℕ) → holds m self.old fed → length fed + length piece.old ≤ limit m
