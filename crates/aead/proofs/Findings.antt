@@ -69,7 +69,8 @@ unsealed_found s tag body y len long size equal other =
 pub took_masked : {S H : Type 0} (made : S → Setting → List ℕ → ℕ → Type 0)
     (held : H → Setting → List ℕ → Type 0) (order : Order) (s : Setting) (tag : List ℕ)
     (len n : ℕ) (l l' o o' : Option (List ℕ)) (k : Masking S H) (t : List ℕ)
-    → (q : HasFilledRoom (HoldsMasking made held (message_task order s tag)) (mask_of s tag) [] (len - 16) l l' o o' k n)
+    → (q : HasFilledRoom (HoldsMasking made held (message_task order s tag)) (mask_of s tag) [] (len - 16)
+    l l' o o' k n)
     → t ≡ tag_of s (masked (mask_of s tag) 0 q.bytes) → PassesBody s tag len l l' o o' n t
 took_masked made held order s tag len n l l' o o' k t q is = record {
   bytes = q.bytes;

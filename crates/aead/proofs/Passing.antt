@@ -88,9 +88,8 @@ stopped_more holds mask fed x room room' l l' l'' o o' o'' k p q fits =
 -- if the piece after x does not fill its room, x and that piece are all that the reading had left
 pub far_more : {M : Type 0} (holds : M → List ℕ → Type 0) (mask : ℕ → ℕ) (x : List ℕ)
     (room room' n done : ℕ) (l l' l'' o o' o'' : Option (List ℕ)) (k k' : M) →
-    HasPassed holds mask [] l l' o o' k x → length x ≡ done → HasFilledRoom holds mask x room l' l'' o' o'' k' n → n < room
-    → done + room ≤ room' →
-    HasFilledRoom holds mask [] room' l l'' o o'' k' (done + n)
+    HasPassed holds mask [] l l' o o' k x → length x ≡ done → HasFilledRoom holds mask x room l' l'' o' o'' k' n
+    → n < room → done + room ≤ room' → HasFilledRoom holds mask [] room' l l'' o o'' k' (done + n)
 far_more holds mask x room room' n done l l' l'' o o' o'' k k' p size q less fits =
     record {
       bytes = x ++ q.bytes;

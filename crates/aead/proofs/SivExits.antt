@@ -280,7 +280,8 @@ pub exit_second : {H : Type 0} (held : H → Setting → List ℕ → Type 0) (m
     (la lb o o' l' p p' : Option (List ℕ)) (s : Setting) (k : Authenticator H) (room n x x' y y' z z' : ℕ)
     (r : Result (Unit {0}) Fault)
     → x' ≡ x → HasPassedAll (λ a fed. HoldsAuthenticator held a s fed) mask room la l' p p' k (Some n)
-    → ((a : List ℕ) → HoldsAuthenticator held k s a → length a ≡ n → IfSome lb (λ b. WritesAgain s a b o o' y y' z z' r))
+    → ((a : List ℕ) → HoldsAuthenticator held k s a → length a ≡ n
+    → IfSome lb (λ b. WritesAgain s a b o o' y y' z z' r))
     → IfBothKnown la lb o o'
     (λ a b given. SealsSivStream s a b given (record { first = x; second = y; outlet = z })
     (record { first = x'; second = y'; outlet = z' }) r)

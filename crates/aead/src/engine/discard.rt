@@ -4,7 +4,7 @@ ghost use Rattle.std.specs.Prelude.{None};
 
 use octets::{DeviceFault, Outlet};
 
-// An outlet that drops every byte.
+// An outlet that drops every byte, and never fails.
 #[derive(Drop)]
 pub(crate) struct Discard;
 

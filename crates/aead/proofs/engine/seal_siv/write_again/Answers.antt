@@ -27,7 +27,8 @@ returns-in-Err-clause-written g c = λ s first two e h.
 pub returns-in-Ok-None-clause-written : goal.returns-in-Ok-None-clause-written
 returns-in-Ok-None-clause-written g c = λ s first two e h.
     let l : Option (List ℕ) = g.J.Intake.left c.args.intake.now in
-    let went = rw c.in-Ok-None.field-0-is at (c.in-Ok-None.ensures.passed (repeating_task s first) h (omega (arith, h.limit_is))) in
+    let went = rw c.in-Ok-None.field-0-is
+    at (c.in-Ok-None.ensures.passed (repeating_task s first) h (omega (arith, h.limit_is))) in
     if_known l _ _
     (told l (λ m. HasPassedAll (HoldsMasking g.S.MaskStream.made g.H.TagHash.held (repeating_task s first))
     (mask_of s (tag_of s first)) c.args.again.limit m (g.J.Intake.left c.pass_all.new.intake) (g.O.Outlet.taken c.args.outlet.now)
@@ -37,7 +38,8 @@ returns-in-Ok-None-clause-written g c = λ s first two e h.
 pub returns-else-repeats-clause-written : goal.returns-else-repeats-clause-written
 returns-else-repeats-clause-written g c = λ s first two e h.
     let l : Option (List ℕ) = g.J.Intake.left c.args.intake.now in
-    let went = rw c.in-Ok-Some.field-0-is at (c.in-Ok-Some.ensures.passed (repeating_task s first) h (omega (arith, h.limit_is))) in
+    let went = rw c.in-Ok-Some.field-0-is
+    at (c.in-Ok-Some.ensures.passed (repeating_task s first) h (omega (arith, h.limit_is))) in
     if_known l _ _
     (told l (λ m. HasPassedAll (HoldsMasking g.S.MaskStream.made g.H.TagHash.held (repeating_task s first))
     (mask_of s (tag_of s first)) c.args.again.limit m (g.J.Intake.left c.pass_all.new.intake) (g.O.Outlet.taken c.args.outlet.now)
@@ -48,7 +50,8 @@ returns-else-repeats-clause-written g c = λ s first two e h.
 pub returns-in-Ok-clause-written : goal.returns-in-Ok-clause-written
 returns-in-Ok-clause-written g c = λ s first two e h.
     let l : Option (List ℕ) = g.J.Intake.left c.args.intake.now in
-    let went = rw c.in-Ok-Some.field-0-is at (c.in-Ok-Some.ensures.passed (repeating_task s first) h (omega (arith, h.limit_is))) in
+    let went = rw c.in-Ok-Some.field-0-is
+    at (c.in-Ok-Some.ensures.passed (repeating_task s first) h (omega (arith, h.limit_is))) in
     let size : length c.args.tag.now ≡ 16 = c.bytes.ensures.are_bytes.length_is in
     let R : List ℕ → Type 0 =
     λ x. Appends (g.O.Outlet.taken c.pass_all.new.outlet) (g.O.Outlet.taken c.give_all.new.outlet) x in
@@ -71,7 +74,8 @@ returns-in-Ok-clause-written g c = λ s first two e h.
 pub returns-in-Err-give_all-clause-written : goal.returns-in-Err-give_all-clause-written
 returns-in-Err-give_all-clause-written g c = λ s first two e h.
     let l : Option (List ℕ) = g.J.Intake.left c.args.intake.now in
-    let went = rw c.in-Ok-Some.field-0-is at (c.in-Ok-Some.ensures.passed (repeating_task s first) h (omega (arith, h.limit_is))) in
+    let went = rw c.in-Ok-Some.field-0-is
+    at (c.in-Ok-Some.ensures.passed (repeating_task s first) h (omega (arith, h.limit_is))) in
     let given = c.in-Err-give_all.ensures.bytes in
     let R : List ℕ → Type 0 =
     λ x. Appends (g.O.Outlet.taken c.pass_all.new.outlet) (g.O.Outlet.taken c.give_all.new.outlet)
