@@ -6,18 +6,17 @@ use Rattle.std.proofs.lemmas.List.{take_all, take_at, take-append-le}
 use Rattle.octets.specs.Masked.{masked}
 use Rattle.octets.proofs.Devices.{consumes_more}
 use Rattle.octets.proofs.Masks.{take-masked}
-use Rattle.aead.specs.Code.Maskings.{Task, task_mask}
 use Rattle.aead.specs.Code.Passes.{HasFilledRoom, Stopped}
 use Rattle.aead.specs.Code.Extents.{IsExtent, HasPassedAll, More}
 use Rattle.aead.proofs.Findings.{front_of}
 
 -- a reading that ended before the length was taken to its end
-pub all_short : {M : Type 0} (holds : M → Task → List ℕ → Type 0) (t : Task) (len n : ℕ)
+pub all_short : {M : Type 0} (holds : M → List ℕ → Type 0) (mask : ℕ → ℕ) (len n : ℕ)
     (l l' o o' : Option (List ℕ)) (k : M)
-    → HasFilledRoom holds t [] len l l' o o' k n → n < len → HasPassedAll holds t len l l' o o' k (Some n)
-all_short holds t len n l l' o o' k q less =
-    let P : List ℕ → Type 0 = λ b. Appends o o' (masked (task_mask t) 0 b) in
-    let Q : List ℕ → Type 0 = λ b. holds k t b in
+    → HasFilledRoom holds mask [] len l l' o o' k n → n < len → HasPassedAll holds mask len l l' o o' k (Some n)
+all_short holds mask len n l l' o o' k q less =
+    let P : List ℕ → Type 0 = λ b. Appends o o' (masked mask 0 b) in
+    let Q : List ℕ → Type 0 = λ b. holds k b in
     let all : take len q.bytes ≡ q.bytes = take_all len q.bytes (omega (arith, q.count, less)) in
     record {
       bytes = q.bytes;
@@ -29,16 +28,16 @@ all_short holds t len n l l' o o' k q less =
     }
 
 -- a reading that came to the length, and then had more bytes or no more, was taken to its end or past the length
-pub all_more : {M : Type 0} (holds : M → Task → List ℕ → Type 0) (t : Task) (len n : ℕ)
+pub all_more : {M : Type 0} (holds : M → List ℕ → Type 0) (mask : ℕ → ℕ) (len n : ℕ)
     (l l' l'' o o' : Option (List ℕ)) (k : M) (extent : Option ℕ) (b : Bool)
-    → (q : HasFilledRoom holds t [] len l l' o o' k n) → len ≤ n →
+    → (q : HasFilledRoom holds mask [] len l l' o o' k n) → len ≤ n →
     (more : More l' l'' b) →
     (length q.bytes ≡ len → IsExtent len (q.bytes ++ more.bytes) extent
     × (length (q.bytes ++ more.bytes) ≤ len → b ≡ false)) →
-    HasPassedAll holds t len l l'' o o' k extent
-all_more holds t len n l l' l'' o o' k extent b q full more found =
-    let P : List ℕ → Type 0 = λ b. Appends o o' (masked (task_mask t) 0 b) in
-    let Q : List ℕ → Type 0 = λ b. holds k t b in
+    HasPassedAll holds mask len l l'' o o' k extent
+all_more holds mask len n l l' l'' o o' k extent b q full more found =
+    let P : List ℕ → Type 0 = λ b. Appends o o' (masked mask 0 b) in
+    let Q : List ℕ → Type 0 = λ b. holds k b in
     let size : length q.bytes ≡ len = omega (arith, q.count, q.short, full) in
     let front : take len (q.bytes ++ more.bytes) ≡ q.bytes = take_at q.bytes more.bytes len size in
     record {
@@ -51,15 +50,15 @@ all_more holds t len n l l' l'' o o' k extent b q full more found =
     }
 
 -- if a device fails when it is asked for more, the pass has stopped
-pub all_stopped : {M : Type 0} (holds : M → Task → List ℕ → Type 0) (t : Task) (len n : ℕ)
+pub all_stopped : {M : Type 0} (holds : M → List ℕ → Type 0) (mask : ℕ → ℕ) (len n : ℕ)
     (l l' l'' o o' : Option (List ℕ)) (k : M) (y : List ℕ)
-    → HasFilledRoom holds t [] len l l' o o' k n → Consumes l' l'' y → Stopped t [] len l l'' o o'
-all_stopped holds t len n l l' l'' o o' k y q more =
+    → HasFilledRoom holds mask [] len l l' o o' k n → Consumes l' l'' y → Stopped mask [] len l l'' o o'
+all_stopped holds mask len n l l' l'' o o' k y q more =
     let P : List ℕ → Type 0 = λ b. Appends o o' b in
-    let same : take (length q.bytes) (masked (task_mask t) 0 (q.bytes ++ y))
-    ≡ masked (task_mask t) 0 q.bytes =
-    take-masked (task_mask t) (length q.bytes) 0 (q.bytes ++ y)
-    ∙ ap (λ b. masked (task_mask t) 0 b) (take_at q.bytes y (length q.bytes) refl) in
+    let same : take (length q.bytes) (masked mask 0 (q.bytes ++ y))
+    ≡ masked mask 0 q.bytes =
+    take-masked mask (length q.bytes) 0 (q.bytes ++ y)
+    ∙ ap (λ b. masked mask 0 b) (take_at q.bytes y (length q.bytes) refl) in
     record {
       bytes = q.bytes ++ y;
       shown = length q.bytes;
@@ -78,13 +77,13 @@ extent_of len x y None p q h = q
 extent_of len x y (Some n) p q h = absurd (omega (arith, p, h.0, h.1))
 
 -- the bytes written, the bytes held and the extent are those of the reading
-pub all_known : {M : Type 0} (holds : M → Task → List ℕ → Type 0) (t : Task) (len : ℕ) (x : List ℕ)
-    (l' o o' : Option (List ℕ)) (k : M) (e : Option ℕ) → HasPassedAll holds t len (Some x) l' o o' k e →
-    Appends o o' (masked (task_mask t) 0 (take len x)) × holds k t (take len x) × IsExtent len x e
-all_known holds t len x None o o' k e w = absurd w.consumed
-all_known holds t len x (Some rest) o o' k e w =
-    let P : List ℕ → Type 0 = λ b. Appends o o' (masked (task_mask t) 0 b) in
-    let Q : List ℕ → Type 0 = λ b. holds k t b in
+pub all_known : {M : Type 0} (holds : M → List ℕ → Type 0) (mask : ℕ → ℕ) (len : ℕ) (x : List ℕ)
+    (l' o o' : Option (List ℕ)) (k : M) (e : Option ℕ) → HasPassedAll holds mask len (Some x) l' o o' k e →
+    Appends o o' (masked mask 0 (take len x)) × holds k (take len x) × IsExtent len x e
+all_known holds mask len x None o o' k e w = absurd w.consumed
+all_known holds mask len x (Some rest) o o' k e w =
+    let P : List ℕ → Type 0 = λ b. Appends o o' (masked mask 0 b) in
+    let Q : List ℕ → Type 0 = λ b. holds k b in
     let R : List ℕ → Type 0 = λ b. IsExtent len b e in
     elim (front_of x w.bytes rest len w.consumed w.end) [
       | inl same ↦
@@ -97,17 +96,17 @@ all_known holds t len x (Some rest) o o' k e w =
     ]
 
 -- after a device failed, the bytes written are a beginning of the masked reading, within the length
-pub all_stopped_known : (t : Task) (len : ℕ) (x : List ℕ) (l' o o' : Option (List ℕ))
-    → Stopped t [] len (Some x) l' o o' →
-    (k : ℕ) × (k ≤ length x) × (k ≤ len) × Appends o o' (take k (masked (task_mask t) 0 x))
-all_stopped_known t len x None o o' w = absurd w.consumed
-all_stopped_known t len x (Some rest) o o' w =
+pub all_stopped_known : (mask : ℕ → ℕ) (len : ℕ) (x : List ℕ) (l' o o' : Option (List ℕ))
+    → Stopped mask [] len (Some x) l' o o' →
+    (k : ℕ) × (k ≤ length x) × (k ≤ len) × Appends o o' (take k (masked mask 0 x))
+all_stopped_known mask len x None o o' w = absurd w.consumed
+all_stopped_known mask len x (Some rest) o o' w =
     let P : List ℕ → Type 0 = λ b. Appends o o' b in
-    let same : take w.shown (masked (task_mask t) 0 x) ≡ take w.shown (masked (task_mask t) 0 w.bytes) =
-    take-masked (task_mask t) w.shown 0 x
-    ∙ ap (λ b. masked (task_mask t) 0 b)
+    let same : take w.shown (masked mask 0 x) ≡ take w.shown (masked mask 0 w.bytes) =
+    take-masked mask w.shown 0 x
+    ∙ ap (λ b. masked mask 0 b)
     (ap (λ b. take w.shown b) w.consumed ∙ take-append-le w.shown w.bytes rest w.within)
-    ∙ sym (take-masked (task_mask t) w.shown 0 w.bytes) in (
+    ∙ sym (take-masked mask w.shown 0 w.bytes) in (
       w.shown,
       omega (arith, ap length w.consumed, length-append w.bytes rest, w.within),
       w.short,

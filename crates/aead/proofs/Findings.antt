@@ -3,12 +3,13 @@ use Rattle.std.proofs.Common.{◌≡◌, ℕ, List, [], ◌++◌, ◌≤◌, ◌
 use Rattle.std.proofs.Common.{length, take, drop, get_or, refl, ap, ◌∙◌, sym, arith, true≢false, Option}
 use Rattle.std.proofs.Common.{Some, None, subst, length-append}
 use Rattle.std.specs.Str.{bytes_eq}
-use Rattle.std.specs.Io.KnownBytes.{Consumes, Appends, IsAtEnd}
+use Rattle.std.specs.Io.KnownBytes.{Consumes, Appends}
 use Rattle.std.proofs.lemmas.Bool.{cases_lt}
 use Rattle.std.proofs.lemmas.List.{append-nil, take_all, drop_all, take_at, drop_at, length-drop}
 use Rattle.std.proofs.lemmas.List.{take-append-le, take-take}
 use Rattle.std.proofs.lemmas.Slice.Eq.{bytes_eq-Decides}
 use Rattle.octets.specs.Masked.{masked}
+use Rattle.octets.specs.declared.work.Order.{Order}
 use Rattle.aes.specs.Cipher.{IsKey}
 use Rattle.octets.proofs.Devices.{consumes_more}
 use Rattle.octets.proofs.Masks.{take-masked}
@@ -23,14 +24,14 @@ use Rattle.aead.specs.Code.Maskings.{HoldsMasking, message_task}
 use Rattle.aead.specs.Code.Passes.{HasFilledRoom, Stopped}
 use Rattle.aead.specs.Code.Findings.{IsFinding, MakesTag, PassesBody, HasPassedReading, Tail}
 use Rattle.aead.proofs.ByteMasks.{masked_small, mask_small}
+use Rattle.aead.proofs.Passing.{masked_by_zeros}
 use Rattle.aead.proofs.Opens.{unmasked, no_sealing, opened_as, body_tag}
 
 -- the lengths that an opening has taken in are allowed
 pub opening_fits : {S H : Type 0} (made : S → Setting → List ℕ → ℕ → Type 0)
-    (held : H → Setting → List ℕ → Type 0)
-    (hashed : (ℕ → ℕ) → List ℕ → List ℕ) (k : Masking S H) (s : Setting) (tag body : List ℕ)
-    → HoldsMasking made held hashed k (message_task s tag) body → Fits s body
-opening_fits made held hashed k s tag body h =
+    (held : H → Setting → List ℕ → Type 0) (order : Order) (k : Masking S H) (s : Setting) (tag body : List ℕ)
+    → HoldsMasking made held (message_task order s tag) k body → Fits s body
+opening_fits made held order k s tag body h =
     record { aad_fits = h.taken.fits.aad_fits; text_fits = omega (arith, h.within, h.limit_fits) }
 
 -- ---- the finding for a body and the bytes after it
@@ -41,7 +42,7 @@ differs_found s tag body y len size other = λ e.
     true≢false (sym ((bytes_eq-Decides y tag).1 (sym (drop_at body y (len - 16) size) ∙ e)) ∙ other)
 
 pub sealed_found : (s : Setting) (tag body y : List ℕ) (len : ℕ) → length body ≡ len - 16
-    → bytes_eq y tag ≡ true → MakesTag tag (message_task s tag) body
+    → bytes_eq y tag ≡ true → MakesTag s tag tag body
     → ((i : ℕ) → get_or (unmasked s tag body) i 0 < 256) → IsFinding s tag len (body ++ y) Sealed
 sealed_found s tag body y len size equal makes small =
     let e : y ≡ tag = (bytes_eq-Decides y tag).0 equal in
@@ -66,16 +67,17 @@ unsealed_found s tag body y len long size equal other =
 
 -- if the body was taken and decrypted, and t is the tag of its text, the body has passed with the tag t
 pub took_masked : {S H : Type 0} (made : S → Setting → List ℕ → ℕ → Type 0)
-    (held : H → Setting → List ℕ → Type 0) (hashed : (ℕ → ℕ) → List ℕ → List ℕ) (s : Setting) (tag : List ℕ)
+    (held : H → Setting → List ℕ → Type 0) (order : Order) (s : Setting) (tag : List ℕ)
     (len n : ℕ) (l l' o o' : Option (List ℕ)) (k : Masking S H) (t : List ℕ)
-    → (q : HasFilledRoom (HoldsMasking made held hashed) (message_task s tag) [] (len - 16) l l' o o' k n)
+    → (q : HasFilledRoom (HoldsMasking made held (message_task order s tag)) (mask_of s tag) [] (len - 16)
+    l l' o o' k n)
     → t ≡ tag_of s (masked (mask_of s tag) 0 q.bytes) → PassesBody s tag len l l' o o' n t
-took_masked made held hashed s tag len n l l' o o' k t q is = record {
+took_masked made held order s tag len n l l' o o' k t q is = record {
   bytes = q.bytes;
   went = record {
     consumed = q.went.consumed;
     given = q.went.given;
-    held = (opening_fits made held hashed k s tag q.bytes q.went.held, is);
+    held = (opening_fits made held order k s tag q.bytes q.went.held, is);
     small = q.went.small;
   };
   count = q.count;
@@ -86,22 +88,24 @@ took_masked made held hashed s tag len n l l' o o' k t q is = record {
 -- if the body was taken and authenticated but not decrypted, and t is the tag over it, the body has passed with the tag t
 pub took_read : {H : Type 0} (held : H → Setting → List ℕ → Type 0) (s : Setting) (tag : List ℕ) (len n : ℕ)
     (l l' : Option (List ℕ)) (k : Authenticator H) (t : List ℕ) → is_one_pass (construction_of s.suite) ≡ true
-    → (construction_of s.suite ≡ ByGcm → IsKey s.key) → n ≤ len - 16
-    → (w : (bytes : List ℕ) × Consumes l l' bytes × HoldsAuthenticator held k s bytes × (length bytes ≡ n)
-    × (n < len - 16 → IsAtEnd l') × ((i : ℕ) → get_or bytes i 0 < 256))
-    → t ≡ tag_over s.suite s.key s.nonce s.aad w.0 → PassesBody s tag len l l' None None n t
-took_read held s tag len n l l' k t one key short w is = record {
-  bytes = w.0;
-  went = record {
-    consumed = w.1;
-    given = tt;
-    held = (w.2.fits, is ∙ sym (body_tag s tag w.0 one));
-    small = masked_small (mask_of s tag) 0 w.0 w.5 (mask_small s tag one key);
-  };
-  count = w.3;
-  short = short;
-  end = w.4;
-}
+    → (construction_of s.suite ≡ ByGcm → IsKey s.key)
+    → (q : HasFilledRoom (λ a fed. HoldsAuthenticator held a s fed) (λ _. 0) [] (len - 16) l l' None None k n)
+    → t ≡ tag_over s.suite s.key s.nonce s.aad q.bytes → PassesBody s tag len l l' None None n t
+took_read held s tag len n l l' k t one key q is =
+    let P : List ℕ → Type 0 = λ b. (i : ℕ) → get_or b i 0 < 256 in
+    record {
+      bytes = q.bytes;
+      went = record {
+        consumed = q.went.consumed;
+        given = tt;
+        held = (q.went.held.fits, is ∙ sym (body_tag s tag q.bytes one));
+        small = masked_small (mask_of s tag) 0 q.bytes (subst P (masked_by_zeros 0 q.bytes) q.went.small)
+            (mask_small s tag one key);
+      };
+      count = q.count;
+      short = q.short;
+      end = q.end;
+    }
 
 -- if the reading ended within the body, it differs
 pub whole_short : (s : Setting) (tag : List ℕ) (len n : ℕ) (l l' o o' : Option (List ℕ)) (t : List ℕ)
@@ -118,15 +122,15 @@ whole_short s tag len n l l' o o' t size q less =
       end = λ _. q.end less;
     }
 
--- if the reading failed while it was authenticated, the pass has stopped
-pub stopped_read : (s : Setting) (tag : List ℕ) (room : ℕ) (l l' : Option (List ℕ)) (bytes : List ℕ)
-    → Consumes l l' bytes → Stopped (message_task s tag) [] room l l' None None
-stopped_read s tag room l l' bytes consumed = record {
-  bytes = bytes;
-  shown = 0;
-  consumed = consumed;
-  within = omega arith;
-  short = omega arith;
+-- if no bytes of the outlet are known, a pass has stopped under any mask
+pub stopped_read : (mask other : ℕ → ℕ) (room : ℕ) (l l' : Option (List ℕ)) → Stopped mask [] room l l' None None
+    → Stopped other [] room l l' None None
+stopped_read mask other room l l' w = record {
+  bytes = w.bytes;
+  shown = w.shown;
+  consumed = w.consumed;
+  within = w.within;
+  short = w.short;
   given = tt;
 }
 
@@ -150,7 +154,7 @@ whole_tail s tag len n l l' l'' o o' t b f low q full tail found =
 -- if the whole body came and then a device failed, the pass has stopped
 pub stopped_tail : (s : Setting) (tag : List ℕ) (len n : ℕ) (l l' l'' o o' : Option (List ℕ)) (t y : List ℕ)
     → PassesBody s tag len l l' o o' n t → Consumes l' l'' y
-    → Stopped (message_task s tag) [] (len - 16) l l'' o o'
+    → Stopped (mask_of s tag) [] (len - 16) l l'' o o'
 stopped_tail s tag len n l l' l'' o o' t y q more =
     let P : List ℕ → Type 0 = λ b. Appends o o' b in
     let same : take (length q.bytes) (masked (mask_of s tag) 0 (q.bytes ++ y))
@@ -215,7 +219,7 @@ whole_given s tag len v (Some rest) o o' f w =
     ]
 
 pub stopped_given : (s : Setting) (tag : List ℕ) (n : ℕ) (v : List ℕ) (l' o o' : Option (List ℕ)) →
-    Stopped (message_task s tag) [] n (Some v) l' o o'
+    Stopped (mask_of s tag) [] n (Some v) l' o o'
     → (k : ℕ) × Appends o o' (take k (masked (mask_of s tag) 0 (take n v)))
 stopped_given s tag n v None o o' w = absurd w.consumed
 stopped_given s tag n v (Some rest) o o' w =

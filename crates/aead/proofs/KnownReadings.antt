@@ -3,9 +3,8 @@ use Rattle.std.proofs.Common.{◌≡◌, ℕ, List, [], ◌≤◌, ◌-◌, inl,
 use Rattle.std.proofs.Common.{Result, Err, IfSome}
 use Rattle.octets.specs.declared.fault.Fault.{Fault}
 use Rattle.aead.specs.declared.engine.passes.Finding.{Finding}
-use Rattle.aead.specs.Sealing.{Setting}
+use Rattle.aead.specs.Sealing.{Setting, mask_of}
 use Rattle.aead.specs.Refusals.{DueToBoth}
-use Rattle.aead.specs.Code.Maskings.{message_task}
 use Rattle.aead.specs.Code.Passes.{Stopped}
 use Rattle.aead.specs.Code.Findings.{HasPassedReading}
 use Rattle.aead.specs.Code.Returns.{VerifyReturns, WriteReturns, verify_answer, write_answer}
@@ -32,7 +31,7 @@ write_known s tag len (Some v) l' o o' f read read' wrote wrote' r size low w e 
 
 pub write_stopped : (s : Setting) (tag : List ℕ) (len : ℕ) (l l' o o' : Option (List ℕ))
     (read read' wrote wrote' : ℕ) (f : Fault) →
-    Stopped (message_task s tag) [] (len - 16) l l' o o'
+    Stopped (mask_of s tag) [] (len - 16) l l' o o'
     → DueToBoth {T = ℕ} [] read read' wrote wrote' (Err f) →
     IfSome l (λ w. WriteReturns s tag len w o o' read read' wrote wrote' (Err f))
 write_stopped s tag len None l' o o' read read' wrote wrote' f w blame = tt

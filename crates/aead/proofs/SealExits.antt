@@ -15,7 +15,6 @@ use Rattle.octets.proofs.Masks.{length-masked, take-masked}
 use Rattle.aead.specs.Suites.{construction_of, is_one_pass, text_limit, aad_limit}
 use Rattle.aead.specs.Sealing.{Setting, mask_of, tag_of, sealing}
 use Rattle.aead.specs.Refusals.{DueToBoth}
-use Rattle.aead.specs.Code.Maskings.{Task, message_task}
 use Rattle.aead.specs.Code.Passes.{Stopped}
 use Rattle.aead.specs.Code.Extents.{HasPassedAll}
 use Rattle.aead.specs.SealStream.{may_seal, SealVerdict, SealsStream, IfTextKnown}
@@ -107,12 +106,12 @@ exit_aad l o s read wrote past =
 pub exit_stopped : (l l' o o' : Option (List ℕ)) (s : Setting) (limit read read' wrote wrote' : ℕ)
     (f : Fault) → limit ≡ text_limit s.suite
     → is_one_pass (construction_of s.suite) ≡ true → length s.aad ≤ aad_limit s.suite
-    → Stopped (message_task s []) [] limit l l' o o'
+    → Stopped (mask_of s []) [] limit l l' o o'
     → DueToBoth {T = ℕ} [] read read' wrote wrote' (Err f)
     → IfTextKnown l o o' (λ x given. SealsStream s x given read read' wrote wrote' (Err f))
 exit_stopped l l' o o' s limit read read' wrote wrote' f same one fits stop blame =
-    if_text_known l o o' _ _ (told l (λ m. Stopped (message_task s []) [] limit m l' o o') stop) (λ x st.
-    let k = all_stopped_known (message_task s []) limit x l' o o' st in (
+    if_text_known l o o' _ _ (told l (λ m. Stopped (mask_of s []) [] limit m l' o o') stop) (λ x st.
+    let k = all_stopped_known (mask_of s []) limit x l' o o' st in (
       take k.0 (masked (mask_of s []) 0 x),
       k.3,
       record {
@@ -124,15 +123,15 @@ exit_stopped l l' o o' s limit read read' wrote wrote' f same one fits stop blam
     ))
 
 -- the exit with `TextTooLong`: the ciphertext up to the limit was written
-pub exit_long : {M : Type 0} (holds : M → Task → List ℕ → Type 0) (l l' o o' : Option (List ℕ))
+pub exit_long : {M : Type 0} (holds : M → List ℕ → Type 0) (l l' o o' : Option (List ℕ))
     (s : Setting) (k : M) (limit read read' wrote wrote' : ℕ) → limit ≡ text_limit s.suite
     → is_one_pass (construction_of s.suite) ≡ true → length s.aad ≤ aad_limit s.suite
-    → HasPassedAll holds (message_task s []) limit l l' o o' k None → (read' ≡ read) × (wrote' ≡ wrote)
+    → HasPassedAll holds (mask_of s []) limit l l' o o' k None → (read' ≡ read) × (wrote' ≡ wrote)
     → IfTextKnown l o o' (λ x given. SealsStream s x given read read' wrote wrote' (Err TextTooLong))
 exit_long holds l l' o o' s k limit read read' wrote wrote' same one fits went kept =
     if_text_known l o o' _ _
-    (told l (λ m. HasPassedAll holds (message_task s []) limit m l' o o' k None) went) (λ x w.
-    let t = all_known holds (message_task s []) limit x l' o o' k None w in
+    (told l (λ m. HasPassedAll holds (mask_of s []) limit m l' o o' k None) went) (λ x w.
+    let t = all_known holds (mask_of s []) limit x l' o o' k None w in
     let past : text_limit s.suite < length x = omega (arith, t.2, same) in
     let given : List ℕ = masked (mask_of s []) 0 (take limit x) in
     let all : given ≡ may_seal s x =
@@ -152,33 +151,33 @@ exit_long holds l l' o o' s k limit read read' wrote wrote' same one fits went k
     ))
 
 -- if a reading was taken to its end, the state holds its whole text
-pub holds_all : {M : Type 0} (holds : M → Task → List ℕ → Type 0) (k : M) (s : Setting) (limit n : ℕ)
+pub holds_all : {M : Type 0} (holds : M → List ℕ → Type 0) (k : M) (s : Setting) (limit n : ℕ)
     (x : List ℕ) (l' o o' : Option (List ℕ)) → limit ≡ text_limit s.suite
-    → HasPassedAll holds (message_task s []) limit (Some x) l' o o' k (Some n)
-    → holds k (message_task s []) x × (length x ≤ text_limit s.suite)
+    → HasPassedAll holds (mask_of s []) limit (Some x) l' o o' k (Some n)
+    → holds k x × (length x ≤ text_limit s.suite)
 holds_all holds k s limit n x l' o o' same went =
-    let t = all_known holds (message_task s []) limit x l' o o' k (Some n) went in
+    let t = all_known holds (mask_of s []) limit x l' o o' k (Some n) went in
     let all : take limit x ≡ x = take_all limit x (omega (arith, t.2.0, t.2.1)) in
-    let P : List ℕ → Type 0 = λ y. holds k (message_task s []) y in
+    let P : List ℕ → Type 0 = λ y. holds k y in
     (subst P all t.1, omega (arith, t.2.0, t.2.1, same))
 
 -- the exit after the tag was written, or a beginning of it because the outlet failed
-pub exit_tag : {M : Type 0} (holds : M → Task → List ℕ → Type 0) (l l' o o' o'' : Option (List ℕ))
+pub exit_tag : {M : Type 0} (holds : M → List ℕ → Type 0) (l l' o o' o'' : Option (List ℕ))
     (s : Setting) (k : M) (tag : List ℕ) (limit n i read read' wrote wrote' : ℕ)
     (r : Result (Unit {0}) Fault) → limit ≡ text_limit s.suite
     → is_one_pass (construction_of s.suite) ≡ true → length s.aad ≤ aad_limit s.suite
-    → HasPassedAll holds (message_task s []) limit l l' o o' k (Some n)
-    → ((text : List ℕ) → holds k (message_task s []) text → tag ≡ tag_of s text)
+    → HasPassedAll holds (mask_of s []) limit l l' o o' k (Some n)
+    → ((text : List ℕ) → holds k text → tag ≡ tag_of s text)
     → Appends o' o'' (take i tag)
     → ((r ≡ Ok tt) × (length tag ≤ i) × (read' ≡ read) × (wrote' ≡ wrote))
     ⊎ ((r ≡ Err Write) × Failed wrote wrote')
     → IfTextKnown l o o'' (λ x given. SealsStream s x given read read' wrote wrote' r)
 exit_tag holds l l' o o' o'' s k tag limit n i read read' wrote wrote' r same one fits went tag_is more end =
     if_text_known l o o'' _ _
-    (told l (λ m. HasPassedAll holds (message_task s []) limit m l' o o' k (Some n)) went)
+    (told l (λ m. HasPassedAll holds (mask_of s []) limit m l' o o' k (Some n)) went)
     (λ x w.
     let held = holds_all holds k s limit n x l' o o' same w in
-    let t = all_known holds (message_task s []) limit x l' o o' k (Some n) w in
+    let t = all_known holds (mask_of s []) limit x l' o o' k (Some n) w in
     let is : tag ≡ tag_of s x = tag_is x held.0 in
     let whole : take limit x ≡ x = take_all limit x (omega (arith, held.1, same)) in
     let P : List ℕ → Type 0 = λ y. Appends o o' (masked (mask_of s []) 0 y) in

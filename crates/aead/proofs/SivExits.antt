@@ -1,8 +1,8 @@
 -- The exits of the engine that seals in two readings, each with its result.
-use Rattle.std.proofs.Common.{◌≡◌, ℕ, List, [], ◌++◌, ◌≤◌, ◌<◌, ◌+◌, ◌⊎◌, inl, inr, Bool, true, false}
+use Rattle.std.proofs.Common.{◌≡◌, ℕ, List, [], ◌++◌, ◌≤◌, ◌<◌, ◌+◌, ◌⊎◌, inl, inr}
 use Rattle.std.proofs.Common.{length, take, refl, ap, ◌∙◌, sym, arith, Option, Some, None, Result, Ok, Err}
-use Rattle.std.proofs.Common.{subst, IfSome, length-append}
-use Rattle.std.proofs.lemmas.List.{take_all, take-take, append-nil}
+use Rattle.std.proofs.Common.{subst, IfSome}
+use Rattle.std.proofs.lemmas.List.{take_all, take-take}
 use Rattle.std.proofs.Math.Seq.{take-append-add}
 use Rattle.std.specs.Io.KnownBytes.{Appends}
 use Rattle.octets.specs.declared.fault.Fault.{Fault}
@@ -16,48 +16,47 @@ use Rattle.octets.proofs.Masks.{take-masked}
 use Rattle.aead.specs.declared.authenticator.Authenticator.{Authenticator}
 use Rattle.aead.specs.Suites.{text_limit, aad_limit}
 use Rattle.aead.specs.Sealing.{Setting, Fits, mask_of, tag_of}
-use Rattle.aead.specs.Refusals.{DueToReading, DueToBoth}
+use Rattle.aead.specs.Refusals.{DueToBoth}
 use Rattle.aead.specs.Pieces.{Repeats}
 use Rattle.aead.specs.Code.States.{HoldsAuthenticator}
-use Rattle.aead.specs.Code.Maskings.{Task, repeating_task}
-use Rattle.aead.specs.Code.Absorbed.{AbsorbedAll}
 use Rattle.aead.specs.Code.Passes.{Stopped}
 use Rattle.aead.specs.Code.Extents.{HasPassedAll}
 use Rattle.aead.specs.SealSivStream.{again, WritesAgain, SivVerdict, SivCounts, SealsSivStream}
 use Rattle.aead.specs.SealSivStream.{IfBothKnown}
 use Rattle.aead.proofs.Extents.{all_known, all_stopped_known}
+use Rattle.aead.proofs.Passing.{reading_failed}
 use Rattle.aead.proofs.SealExits.{told}
 
 -- ---- the second reading
 
 -- the ciphertext of the second reading up to the first one's length was written, and the state has taken in that part of it
-again_known : {M : Type 0} (holds : M → Task → List ℕ → Type 0) (s : Setting) (a b : List ℕ) (len : ℕ)
+again_known : {M : Type 0} (holds : M → List ℕ → Type 0) (s : Setting) (a b : List ℕ) (len : ℕ)
     (l' o o' : Option (List ℕ)) (k : M) (e : Option ℕ) → len ≡ length a
-    → HasPassedAll holds (repeating_task s a) len (Some b) l' o o' k e
-    → Appends o o' (again s a b) × holds k (repeating_task s a) (take (length a) b)
+    → HasPassedAll holds (mask_of s (tag_of s a)) len (Some b) l' o o' k e
+    → Appends o o' (again s a b) × holds k (take (length a) b)
 again_known holds s a b len l' o o' k e same w =
-    let t = all_known holds (repeating_task s a) len b l' o o' k e w in
+    let t = all_known holds (mask_of s (tag_of s a)) len b l' o o' k e w in
     let P : ℕ → Type 0 = λ n. Appends o o' (masked (mask_of s (tag_of s a)) 0 (take n b)) in
-    let Q : ℕ → Type 0 = λ n. holds k (repeating_task s a) (take n b) in
+    let Q : ℕ → Type 0 = λ n. holds k (take n b) in
     (subst P same t.0, subst Q same t.1)
 
 -- if its length was found, the second reading is no longer than the first
-whole_again : {M : Type 0} (holds : M → Task → List ℕ → Type 0) (s : Setting) (a b : List ℕ)
+whole_again : {M : Type 0} (holds : M → List ℕ → Type 0) (s : Setting) (a b : List ℕ)
     (len n : ℕ) (l' o o' : Option (List ℕ)) (k : M) → len ≡ length a
-    → HasPassedAll holds (repeating_task s a) len (Some b) l' o o' k (Some n) → take (length a) b ≡ b
+    → HasPassedAll holds (mask_of s (tag_of s a)) len (Some b) l' o o' k (Some n) → take (length a) b ≡ b
 whole_again holds s a b len n l' o o' k same w =
-    let t = all_known holds (repeating_task s a) len b l' o o' k (Some n) w in
+    let t = all_known holds (mask_of s (tag_of s a)) len b l' o o' k (Some n) w in
     take_all (length a) b (omega (arith, t.2.0, t.2.1, same))
 
 -- the exit after a device failed before the tag: a beginning of the ciphertext was written
 pub again_stopped : (s : Setting) (a b : List ℕ) (len read read' wrote wrote' : ℕ)
     (l' o o' : Option (List ℕ)) (f : Fault) → len ≡ length a
-    → Stopped (repeating_task s a) [] len (Some b) l' o o'
+    → Stopped (mask_of s (tag_of s a)) [] len (Some b) l' o o'
     → DueToBoth {T = ℕ} [] read read' wrote wrote' (Err f)
     → WritesAgain s a b o o' read read' wrote wrote' (Err f)
 again_stopped s a b len read read' wrote wrote' l' o o' f same stop blame =
     let m : ℕ → ℕ = mask_of s (tag_of s a) in
-    let k = all_stopped_known (repeating_task s a) len b l' o o' stop in
+    let k = all_stopped_known (mask_of s (tag_of s a)) len b l' o o' stop in
     let P : List ℕ → Type 0 = λ x. Appends o o' x in
     let front : take k.0 (masked m 0 b) ≡ take k.0 (again s a b) =
     take-masked m k.0 0 b ∙ ap (λ x. masked m 0 x)
@@ -70,12 +69,12 @@ again_stopped s a b len read read' wrote wrote' l' o o' f same stop blame =
     )))
 
 -- the exit after the second reading was found to be longer than the first
-pub again_long : {M : Type 0} (holds : M → Task → List ℕ → Type 0) (s : Setting) (a b : List ℕ)
+pub again_long : {M : Type 0} (holds : M → List ℕ → Type 0) (s : Setting) (a b : List ℕ)
     (len read read' wrote wrote' : ℕ) (l' o o' : Option (List ℕ)) (k : M) → len ≡ length a
-    → HasPassedAll holds (repeating_task s a) len (Some b) l' o o' k None → (read' ≡ read) × (wrote' ≡ wrote)
+    → HasPassedAll holds (mask_of s (tag_of s a)) len (Some b) l' o o' k None → (read' ≡ read) × (wrote' ≡ wrote)
     → WritesAgain s a b o o' read read' wrote wrote' (Err SourceChanged)
 again_long holds s a b len read read' wrote wrote' l' o o' k same w kept =
-    let t = all_known holds (repeating_task s a) len b l' o o' k None w in
+    let t = all_known holds (mask_of s (tag_of s a)) len b l' o o' k None w in
     inr (inl (
       refl,
       λ r. omega (arith, r.0, t.2, same),
@@ -85,10 +84,10 @@ again_long holds s a b len read read' wrote wrote' l' o o' k same w kept =
     ))
 
 -- the exit after the second reading was found not to repeat the first
-pub again_differs : {M : Type 0} (holds : M → Task → List ℕ → Type 0) (s : Setting) (a b : List ℕ)
+pub again_differs : {M : Type 0} (holds : M → List ℕ → Type 0) (s : Setting) (a b : List ℕ)
     (len n read read' wrote wrote' : ℕ) (l' o o' : Option (List ℕ)) (k : M) → len ≡ length a
-    → HasPassedAll holds (repeating_task s a) len (Some b) l' o o' k (Some n) → (read' ≡ read) × (wrote' ≡ wrote)
-    → ((text : List ℕ) → holds k (repeating_task s a) text → ¬ (Repeats s a text))
+    → HasPassedAll holds (mask_of s (tag_of s a)) len (Some b) l' o o' k (Some n) → (read' ≡ read) × (wrote' ≡ wrote)
+    → ((text : List ℕ) → holds k text → ¬ (Repeats s a text))
     → WritesAgain s a b o o' read read' wrote wrote' (Err SourceChanged)
 again_differs holds s a b len n read read' wrote wrote' l' o o' k same w kept other =
     let t = again_known holds s a b len l' o o' k (Some n) same w in
@@ -97,11 +96,11 @@ again_differs holds s a b len n read read' wrote wrote' l' o o' k same w kept ot
     inr (inl (refl, subst P e (other (take (length a) b) t.1), t.0, kept.0, kept.1))
 
 -- the exit after the second reading repeated the first, and the tag was written, or a beginning of it because the outlet failed
-pub again_tag : {M : Type 0} (holds : M → Task → List ℕ → Type 0) (s : Setting) (a b tag : List ℕ)
+pub again_tag : {M : Type 0} (holds : M → List ℕ → Type 0) (s : Setting) (a b tag : List ℕ)
     (len n i read read' wrote wrote' : ℕ) (l' o o' o'' : Option (List ℕ)) (k : M)
     (r : Result (Unit {0}) Fault) → len ≡ length a
-    → HasPassedAll holds (repeating_task s a) len (Some b) l' o o' k (Some n)
-    → ((text : List ℕ) → holds k (repeating_task s a) text → Repeats s a text)
+    → HasPassedAll holds (mask_of s (tag_of s a)) len (Some b) l' o o' k (Some n)
+    → ((text : List ℕ) → holds k text → Repeats s a text)
     → tag ≡ tag_of s a → Appends o' o'' (take i tag)
     → ((r ≡ Ok tt) × (length tag ≤ i) × (read' ≡ read) × (wrote' ≡ wrote))
     ⊎ ((r ≡ Err Write) × Failed wrote wrote')
@@ -135,19 +134,6 @@ any_bytes : (l : Option (List ℕ)) → IfSome l (λ _. Unit {0})
 any_bytes None = tt
 any_bytes (Some x) = tt
 
--- the first reading, if its bytes are known, was taken in whole or is longer than the room
-absorbed_known : {H : Type 0} (held : H → Setting → List ℕ → Type 0) (s : Setting) (room : ℕ) (a : List ℕ)
-    (l' : Option (List ℕ)) (after : Authenticator H) (all : Bool)
-    → AbsorbedAll held s room (Some a) l' after all
-    → (all ≡ true → HoldsAuthenticator held after s a) × (all ≡ false → room < length a)
-absorbed_known held s room a None after all w = absurd w.consumed
-absorbed_known held s room a (Some rest) after all w =
-    let P : List ℕ → Type 0 = λ x. HoldsAuthenticator held after s x in (
-      λ e. let h = w.held_all e in
-          subst P (sym (w.consumed ∙ ap (λ y. w.bytes ++ y) h.1 ∙ append-nil w.bytes)) h.0,
-      λ e. omega (arith, w.long e, ap length w.consumed, length-append w.bytes rest),
-    )
-
 -- the results if nothing was written
 nothing : (s : Setting) (a b : List ℕ) (before after : SivCounts) (f : Fault) →
     (SivVerdict s a b (Err f) × (after ≡ before))
@@ -168,35 +154,34 @@ exit_aad la lb o s before past =
     (λ a b _ _. ([], appends_none o, nothing s a b before before AadTooLong (inl (past, refl))))
 
 pub exit_first : (la lb o : Option (List ℕ)) (s : Setting) (x x' y z : ℕ) (f : Fault)
-    → DueToReading {T = Bool} [] x x' (Err f)
+    → DueToBoth {T = Option ℕ} [] x x' 0 0 (Err f)
     → IfBothKnown la lb o o
     (λ a b given. SealsSivStream s a b given (record { first = x; second = y; outlet = z })
-    (record { first = x'; second = y; outlet = z }) (Err f))
+    (record { first = x'; second = y; outlet = z }) (Err Read))
 exit_first la lb o s x x' y z f due =
-    let failed : (f ≡ Read) × Failed x x' =
-    elim due [ inl b ↦ absurd b.0 | inr (inl b) ↦ b | inr (inr b) ↦ absurd b.1 ] in
+    let failed = reading_failed (Option ℕ) x x' f due in
     if_both_known la lb o o (λ _. Unit {0}) (λ _. Unit {0}) _ (any_bytes la) (any_bytes lb)
     (λ a b _ _. (
       [],
       appends_none o,
       nothing s a b (record { first = x; second = y; outlet = z })
-          (record { first = x'; second = y; outlet = z }) f (inr (failed.0, inl failed.1)),
+          (record { first = x'; second = y; outlet = z }) Read (inr (refl, inl failed)),
     ))
 
-pub exit_long : {H : Type 0} (held : H → Setting → List ℕ → Type 0) (la lb o l' : Option (List ℕ))
-    (s : Setting) (after : Authenticator H) (room x x' y z : ℕ)
+pub exit_long : {M : Type 0} (holds : M → List ℕ → Type 0) (mask : ℕ → ℕ) (la lb o l' p p' : Option (List ℕ))
+    (s : Setting) (k : M) (room x x' y z : ℕ)
     → room ≡ text_limit s.suite → length s.aad ≤ aad_limit s.suite
-    → x' ≡ x → AbsorbedAll held s room la l' after false
+    → x' ≡ x → HasPassedAll holds mask room la l' p p' k None
     → IfBothKnown la lb o o
     (λ a b given. SealsSivStream s a b given (record { first = x; second = y; outlet = z })
     (record { first = x'; second = y; outlet = z }) (Err TextTooLong))
-exit_long held la lb o l' s after room x x' y z same fits kept w =
+exit_long holds mask la lb o l' p p' s k room x x' y z same fits kept w =
     let counts : ℕ → SivCounts = λ n. record { first = n; second = y; outlet = z } in
-    if_both_known la lb o o _ (λ _. Unit {0}) _ (told la (λ m. AbsorbedAll held s room m l' after false) w)
+    if_both_known la lb o o _ (λ _. Unit {0}) _ (told la (λ m. HasPassedAll holds mask room m l' p p' k None) w)
     (any_bytes lb)
     (λ a b t _.
     let past : text_limit s.suite < length a =
-    omega (arith, (absorbed_known held s room a l' after false t).1 refl, same) in (
+    omega (arith, (all_known holds mask room a l' p p' k None t).2, same) in (
       [],
       appends_none o,
       nothing s a b (counts x) (counts x') TextTooLong
@@ -268,17 +253,20 @@ wrote s a b o o' x x' y y' z z' r fits kept w =
       ]
     ]
 
-pub exit_second : {H : Type 0} (held : H → Setting → List ℕ → Type 0) (la lb o o' l' : Option (List ℕ))
-    (s : Setting) (after : Authenticator H) (room x x' y y' z z' : ℕ) (r : Result (Unit {0}) Fault)
-    → x' ≡ x → AbsorbedAll held s room la l' after true
-    → ((a : List ℕ) → HoldsAuthenticator held after s a → IfSome lb (λ b. WritesAgain s a b o o' y y' z z' r))
+pub exit_second : {H : Type 0} (held : H → Setting → List ℕ → Type 0) (mask : ℕ → ℕ)
+    (la lb o o' l' p p' : Option (List ℕ)) (s : Setting) (k : Authenticator H) (room n x x' y y' z z' : ℕ)
+    (r : Result (Unit {0}) Fault)
+    → x' ≡ x → HasPassedAll (λ a fed. HoldsAuthenticator held a s fed) mask room la l' p p' k (Some n)
+    → ((a : List ℕ) → HoldsAuthenticator held k s a → length a ≡ n → IfSome lb (λ b. WritesAgain s a b o o' y y' z z' r))
     → IfBothKnown la lb o o'
     (λ a b given. SealsSivStream s a b given (record { first = x; second = y; outlet = z })
     (record { first = x'; second = y'; outlet = z' }) r)
-exit_second held None lb o o' l' s after room x x' y y' z z' r kept w f = tt
-exit_second held (Some a) lb o o' l' s after room x x' y y' z z' r kept w f =
-    let h = (absorbed_known held s room a l' after true w).0 refl in
-    if_both_known (Some a) lb o o' (λ m. m ≡ a) (λ b. WritesAgain s a b o o' y y' z z' r) _ refl (f a h)
+exit_second held mask None lb o o' l' p p' s k room n x x' y y' z z' r kept w f = tt
+exit_second held mask (Some a) lb o o' l' p p' s k room n x x' y y' z z' r kept w f =
+    let t = all_known (λ a fed. HoldsAuthenticator held a s fed) mask room a l' p p' k (Some n) w in
+    let Q : List ℕ → Type 0 = λ x. HoldsAuthenticator held k s x in
+    let h = subst Q (take_all room a (omega (arith, t.2.0, t.2.1))) t.1 in
+    if_both_known (Some a) lb o o' (λ m. m ≡ a) (λ b. WritesAgain s a b o o' y y' z z' r) _ refl (f a h t.2.0)
     (λ m b e t.
     let P : List ℕ → Type 0 =
     λ q. (given : List ℕ) × Appends o o' given

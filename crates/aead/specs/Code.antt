@@ -4,7 +4,6 @@ pub mod States
 pub mod Measures
 pub mod CutBytes
 pub mod Maskings
-pub mod Absorbed
 pub mod Masks
 pub mod MessageKeys
 pub mod Buffered

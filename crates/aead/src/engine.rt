@@ -1,12 +1,14 @@
 //! Sealing and opening of streams in buffers of a fixed size: three engines, and the passes over a reading that they
 //! share.
 
+mod discard;
 mod measure;
 mod open;
 mod opening;
 mod passes;
 mod seal;
 mod seal_siv;
+mod stage;
 mod verifying;
 
 pub use open::open_stream;

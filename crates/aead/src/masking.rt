@@ -1,12 +1,11 @@
 //! The state of a message that a stream engine masks and authenticates piece by piece, under any construction.
 
-ghost use Rattle.std.specs.Prelude.{◌≡◌, ◌+◌, ◌<◌, ◌≤◌, ◌^◌, ◌++◌, ℕ, List, [], length};
-ghost use Rattle.octets.specs.Masked.{masked};
+ghost use Rattle.std.specs.Prelude.{◌≡◌, ◌<◌, ◌≤◌, ◌^◌, ℕ, List, [], length};
 ghost use Rattle.aead.specs.Suites.{text_limit, aad_limit};
 ghost use Rattle.aead.specs.Sealing.{tag_over};
 
 use crate::authenticator::Authenticator;
-use crate::beside::{Order, step};
+use crate::beside::Order;
 use crate::hashes::TagHash;
 use crate::mask::MaskStream;
 use octets::Tag;
@@ -15,6 +14,7 @@ use octets::Tag;
 // before it is masked or after.
 #[derive(Drop)]
 pub(crate) struct Masking<S, H> {
+    pub(crate) order: Order,
     pub(crate) mask: S,
     pub(crate) authenticator: Authenticator<H>,
     // The most bytes that all pieces may have together.
@@ -26,17 +26,18 @@ pub(crate) struct Masking<S, H> {
 impl<S: MaskStream, H: TagHash> Masking<S, H> {
     ghost use Rattle.aead.specs.Code.Masks.{hashed_by};
     ghost use Rattle.aead.specs.Code.Maskings.{Task, HoldsMasking, task_mask};
-    ghost use Rattle.octets.specs.declared.work.Order.{Order};
 
     // Returns the state of a message of which nothing was masked or authenticated.
     #[inline(always)]
-    pub(crate) fn empty(mask: S, hash: H, limit: u64) -> Masking<S, H>
+    pub(crate) fn empty(order: Order, mask: S, hash: H, limit: u64) -> Masking<S, H>
+        ensures order { result.order ≡ order }
         ensures mask { result.mask ≡ mask }
         ensures hash { result.authenticator.hash ≡ hash }
         ensures none { result.authenticator.length ≡ 0 }
         ensures limit { result.limit ≡ limit }
     {
         Masking {
+            order,
             mask,
             authenticator: Authenticator::empty(hash),
             limit,
@@ -48,36 +49,22 @@ impl<S: MaskStream, H: TagHash> Masking<S, H> {
     #[inline(always)]
     pub(crate) fn begin(&mut self, aad: &[u8])
         requires { self.old.authenticator.length ≡ 0 }
-        ensures holds { (o : Order) (t : Task) → S.made self.old.mask t.setting t.tag 0
+        ensures holds { (t : Task) → self.old.order ≡ t.order → S.made self.old.mask t.setting t.tag 0
             → H.held self.old.authenticator.hash t.setting [] → t.setting.aad ≡ aad.now
             → length aad.now ≤ aad_limit t.setting.suite → self.old.limit ≡ t.limit
-            → t.limit ≤ text_limit t.setting.suite → HoldsMasking S.made H.held (hashed_by o) self.new t [] }
+            → t.limit ≤ text_limit t.setting.suite → HoldsMasking S.made H.held t self.new [] }
         ensures none { self.new.authenticator.length ≡ 0 }
         ensures limit { self.new.limit ≡ self.old.limit }
     {
         self.authenticator.begin(aad);
     }
 
-    // Masks the next piece and authenticates it. All pieces of a message are given in one order.
-    #[inline(always)]
-    pub(crate) fn update(&mut self, order: Order, piece: &mut [u8])
-        requires { self.old.authenticator.length + length piece.old ≤ self.old.limit }
-        ensures masked { (t : Task) (fed : List ℕ) → HoldsMasking S.made H.held (hashed_by order) self.old t fed
-            → HoldsMasking S.made H.held (hashed_by order) self.new t (fed ++ piece.old)
-            × (piece.new ≡ masked (task_mask t) (length fed) piece.old) }
-        ensures length { self.new.authenticator.length ≡ self.old.authenticator.length + length piece.old }
-        ensures limit { self.new.limit ≡ self.old.limit }
-    {
-        step(order, &mut self.mask, &mut self.authenticator, piece);
-    }
-
     // Returns the tag of all pieces, and consumes the state.
     #[inline(always)]
     pub(crate) fn finish(self) -> Tag
-        ensures { (hashed : (ℕ → ℕ) → List ℕ → List ℕ) (t : Task) (fed : List ℕ)
-            → HoldsMasking S.made H.held hashed self t fed
+        ensures { (t : Task) (fed : List ℕ) → HoldsMasking S.made H.held t self fed
             → result ≡ tag_over t.setting.suite t.setting.key t.setting.nonce t.setting.aad
-            (hashed (task_mask t) fed) }
+            (hashed_by t.order (task_mask t) fed) }
     {
         self.authenticator.finish()
     }

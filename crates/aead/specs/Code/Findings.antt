@@ -9,7 +9,6 @@ use Rattle.aead.specs.declared.engine.passes.Finding.{Finding}
 use Rattle.aead.specs.declared.engine.passes.Finding.TheVariants.{Differs, Unsealed, Sealed}
 use Rattle.aead.specs.Sealing.{Setting, Fits, Opened, IsNoSealing, mask_of, tag_of}
 use Rattle.aead.specs.Sealing.{tag_over}
-use Rattle.aead.specs.Code.Maskings.{Task, task_mask, message_task}
 use Rattle.aead.specs.Code.Passes.{Stopped, HasFilledRoom}
 
 -- what a reading x was found to be: it differs in its length or its last 16 bytes; or it agrees in both and is not a valid sealing,
@@ -34,11 +33,11 @@ abbrev pub PassedWhole : Setting → List ℕ → ℕ → Option (List ℕ) → 
     → Option (List ℕ) → Result Finding Fault → Type 0
 PassedWhole s tag len left left' taken taken' r =
     MatchResult r (λ f. HasPassedReading s tag len left left' taken taken' f)
-    (λ _. Stopped (message_task s tag) [] (len - 16) left left' taken taken')
+    (λ _. Stopped (mask_of s tag) [] (len - 16) left left' taken taken')
 
 -- the body has an allowed length, and `made` is the tag of the text that it decrypts to
-abbrev pub MakesTag : List ℕ → Task → List ℕ → Type 0
-MakesTag made t body = Fits t.setting body × (made ≡ tag_of t.setting (masked (task_mask t) 0 body))
+abbrev pub MakesTag : Setting → List ℕ → List ℕ → List ℕ → Type 0
+MakesTag s tag made body = Fits s body × (made ≡ tag_of s (masked (mask_of s tag) 0 body))
 
 -- the tag over the authenticated bytes of a body is the tag of the text that the body decrypts to
 abbrev pub MakesTextTag : ((ℕ → ℕ) → List ℕ → List ℕ) → Setting → List ℕ → Type 0
@@ -50,7 +49,7 @@ MakesTextTag hashed s tag =
 abbrev pub PassesBody : Setting → List ℕ → ℕ → Option (List ℕ) → Option (List ℕ) → Option (List ℕ)
     → Option (List ℕ) → ℕ → List ℕ → Type 0
 PassesBody s tag len left left' taken taken' n made =
-    HasFilledRoom MakesTag (message_task s tag) [] (len - 16) left left' taken taken' made n
+    HasFilledRoom (MakesTag s tag) (mask_of s tag) [] (len - 16) left left' taken taken' made n
 
 -- b says whether the bytes that came were this tag and nothing more
 pub record Tail (tag : List ℕ) (left left' : Option (List ℕ)) (b : Bool) : Type 0 where

@@ -1,9 +1,12 @@
 //! The first of the three readings of the stream opener, which measures the sealing: its length and its last 16 bytes.
 
-ghost use Rattle.std.specs.Prelude.{◌≡◌, ◌++◌, ◌<◌, ◌≤◌, ◌^◌, drop, length};
+ghost use Rattle.std.specs.Prelude.{◌≡◌, ◌++◌, ◌<◌, ◌≤◌, ◌^◌, ⊤, drop, length, replicate};
 ghost use Rattle.octets.specs.Bytes.{IsBlock};
 
-use octets::{Fault, Intake, Tag, fill};
+use crate::engine::discard::Discard;
+use crate::engine::passes::pass_body;
+use crate::engine::stage::Stage;
+use octets::{Fault, Intake, Tag};
 
 // The length of a reading and its last 16 bytes.
 #[derive(Drop)]
@@ -27,6 +30,29 @@ fn slide(last: &mut [u8; 16], piece: &[u8])
     }
 }
 
+// The last 16 bytes of the pieces so far, after zeros while there are fewer.
+#[derive(Drop)]
+struct Last {
+    bytes: [u8; 16],
+}
+
+// The pieces stay as they are, and may be those of any message.
+impl Stage for Last {
+    ghost Message = { ⊤ };
+
+    ghost limit = { λ _. 2 ^ 64 };
+
+    ghost mask = { λ _ _. 0 };
+
+    ghost holds = { λ _ last fed. last.bytes ≡ drop (length fed) (replicate 16 0 ++ fed) };
+
+    ghost room = { λ _. 2 ^ 64 };
+
+    fn take_in(&mut self, piece: &mut [u8]) {
+        slide(&mut self.bytes, piece);
+    }
+}
+
 impl Measured {
     ghost use Rattle.aead.specs.Code.Measures.{Measures};
 
@@ -37,30 +63,20 @@ impl Measured {
         ensures { Measures limit (I.left intake.old) (I.left intake.new) (I.failures intake.old)
             (I.failures intake.new) result }
     {
-        let mut buf = [0; 4096];
-        let mut length = 0;
-        let mut last = [0; 16];
-        loop {
-            let want = (limit + 17 - length).min(4096) as usize;
-            let room = &mut buf[..want];
-            let n = match fill(intake, room) {
-                Ok(n) => n,
-                Err(_) => return Err(Fault::Read),
-            };
-            slide(&mut last, &room[..n]);
-            length += n as u64;
-            if length > limit + 16 {
-                return Err(Fault::TextTooLong);
-            }
-            if n < want {
-                if length < 16 {
-                    return Err(Fault::TooShort);
-                }
-                return Ok(Measured {
-                    length,
-                    tag: Tag::new(last),
-                });
-            }
+        let mut last = Last { bytes: [0; 16] };
+        let length = match pass_body(intake, &mut last, limit + 17, &mut Discard) {
+            Ok(length) => length,
+            Err(_) => return Err(Fault::Read),
+        };
+        if length > limit + 16 {
+            return Err(Fault::TextTooLong);
         }
+        if length < 16 {
+            return Err(Fault::TooShort);
+        }
+        Ok(Measured {
+            length,
+            tag: Tag::new(last.bytes),
+        })
     }
 }

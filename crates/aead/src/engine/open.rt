@@ -1,7 +1,7 @@
 //! The stream opener: measures, verifies and decrypts in three readings, so that no byte is given before a whole reading was
 //! authenticated (RFC 8439, 2.8; SP 800-38D, 7.2; RFC 8452, 5).
 
-ghost use Rattle.std.specs.Prelude.{◌≡◌, ◌↔◌, ℕ, ◌+◌, ◌<◌, ◌≤◌, ◌∷◌, [], length, None, IfSome, IfOk};
+ghost use Rattle.std.specs.Prelude.{◌≡◌, ◌↔◌, ◌+◌, ◌<◌, ◌≤◌, ◌∷◌, [], length, None, IfSome, IfOk};
 ghost use Rattle.aead.specs.Refusals.{DueToReading, DueToBoth, late_in_readings, UntouchedUnless};
 ghost use Rattle.aead.specs.Suites.{text_limit, aad_limit};
 ghost use Rattle.aead.specs.Ciphers.{setting};
@@ -13,27 +13,14 @@ ghost use Rattle.aead.specs.Code.Findings.{PassedWhole};
 
 use crate::aead::Aead;
 use crate::any::{AnyAead, AnyOnePass};
+use crate::engine::discard::Discard;
 use crate::engine::measure::Measured;
 use crate::engine::opening::pass_opening;
 use crate::engine::passes::Finding;
 use crate::engine::verifying::verify_one_pass;
 use crate::suite::Suite;
 use gf128::WideMul;
-use octets::{DeviceFault, Fault, Intake, Nonce, Outlet};
-
-// An outlet that drops every byte.
-#[derive(Drop)]
-struct Discard;
-
-impl Outlet for Discard {
-    ghost taken = { λ _. None };
-
-    ghost failures = { λ _. 0 };
-
-    fn give(&mut self, bytes: &[u8]) -> Result<usize, DeviceFault> {
-        Ok(bytes.len())
-    }
-}
+use octets::{Fault, Intake, Nonce, Outlet};
 
 // The first step: measures the length and the tag.
 fn measure_step<I: Intake>(suite: Suite, intake: &mut I) -> Result<Measured, Fault>

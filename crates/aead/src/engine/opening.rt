@@ -34,9 +34,9 @@ fn open_one_pass<N: OnePass, I: Intake, O: Outlet>(
         (O.failures outlet.new) result }
 {
     let limit = message.suite().text_limit();
-    let mut opening = Masking::empty(message.mask(), message.hash(), limit);
+    let mut opening = Masking::empty(Order::HashFirst, message.mask(), message.hash(), limit);
     opening.begin(aad);
-    pass(Order::HashFirst, intake, opening, measured, outlet)
+    pass(intake, opening, measured, outlet)
 }
 
 // Opens a whole reading by a cipher with a nonce whose tag is over the text.
@@ -57,9 +57,9 @@ fn open_two_pass<N: TwoPass, I: Intake, O: Outlet>(
 {
     let limit = message.suite().text_limit();
     let mask = message.mask(&measured.tag);
-    let mut opening = Masking::empty(mask, message.hash(), limit);
+    let mut opening = Masking::empty(Order::MaskFirst, mask, message.hash(), limit);
     opening.begin(aad);
-    pass(Order::MaskFirst, intake, opening, measured, outlet)
+    pass(intake, opening, measured, outlet)
 }
 
 // Opens a whole reading by a cipher of any suite, with a multiplier of the type `M`.

@@ -1,15 +1,16 @@
-//! One pass over a reading: each piece is masked, authenticated and given before the next one is taken.
+//! One pass over a reading, piece by piece: a stage takes in each piece, which is given before the next one is taken. To
+//! measure, to verify and to write differ in their stage and their outlet.
 
-ghost use Rattle.std.specs.Prelude.{◌≡◌, ℕ, ◌+◌, ◌≤◌, List, [], length, Option, IfOk};
+ghost use Rattle.std.specs.Prelude.{ℕ, ◌+◌, ◌<◌, ◌≤◌, List, [], length, Option, IfOk};
+ghost use Rattle.octets.specs.declared.work.Order.{Order};
 ghost use Rattle.aead.specs.Refusals.{DueToReading, DueToBoth};
-ghost use Rattle.aead.specs.Suites.{text_limit};
 ghost use Rattle.aead.specs.Sealing.{Setting};
 ghost use Rattle.aead.specs.Code.Masks.{hashed_by};
-ghost use Rattle.aead.specs.Code.Maskings.{Task, HoldsMasking, message_task};
+ghost use Rattle.aead.specs.Code.Maskings.{HoldsMasking, message_task};
 ghost use Rattle.aead.specs.Code.Passes.{Passed};
 
-use crate::beside::Order;
 use crate::engine::measure::Measured;
+use crate::engine::stage::Stage;
 use crate::hashes::TagHash;
 use crate::mask::MaskStream;
 use crate::masking::Masking;
@@ -29,31 +30,29 @@ pub(crate) enum Finding {
 ghost use Rattle.aead.specs.Code.Findings.{PassedWhole, PassesBody, MakesTextTag, Ends};
 ghost use Rattle.aead.specs.Code.Extents.{PassedAll, HasMore};
 
-// Passes one piece: fills the buffer as far as the reading goes, masks and authenticates the bytes, and gives them.
-fn pass_piece<I: Intake, O: Outlet, S: MaskStream, H: TagHash>(
-    order: Order,
+// Passes one piece: fills the buffer as far as the reading goes, and gives the bytes as the stage has left them.
+fn pass_piece<I: Intake, S: Stage, O: Outlet>(
     intake: &mut I,
-    masking: &mut Masking<S, H>,
+    stage: &mut S,
     buf: &mut [u8],
     outlet: &mut O,
 ) -> Result<usize, Fault>
-    requires { masking.old.authenticator.length + length buf.old ≤ masking.old.limit }
+    requires { length buf.old < S.room stage.old }
     ensures bound { IfOk result (λ n. n ≤ length buf.old) }
-    ensures passed { (t : Task) (fed : List ℕ) → HoldsMasking S.made H.held (hashed_by order) masking.old t fed →
-        Passed (HoldsMasking S.made H.held (hashed_by order)) t fed (length buf.old)
-        (I.left intake.old) (I.left intake.new) (O.taken outlet.old) (O.taken outlet.new) masking.new result }
+    ensures passed { (m : S.Message) (fed : List ℕ) → S.holds m stage.old fed
+        → length fed + length buf.old ≤ S.limit m →
+        Passed (S.holds m) (S.mask m) fed (length buf.old)
+        (I.left intake.old) (I.left intake.new) (O.taken outlet.old) (O.taken outlet.new) stage.new result }
     ensures blame { DueToBoth [] (I.failures intake.old) (I.failures intake.new) (O.failures outlet.old)
         (O.failures outlet.new) result }
-    ensures length { IfOk result
-        (λ n. masking.new.authenticator.length ≡ masking.old.authenticator.length + n) }
-    ensures limit { masking.new.limit ≡ masking.old.limit }
+    ensures room { IfOk result (λ n. S.room stage.old ≤ S.room stage.new + n) }
 {
     let n = match fill(intake, buf) {
         Ok(n) => n,
         Err(_) => return Err(Fault::Read),
     };
     let piece = &mut buf[..n];
-    masking.update(order, piece);
+    stage.take_in(piece);
     match give_all(outlet, piece) {
         Ok(()) => Ok(n),
         Err(_) => Err(Fault::Write),
@@ -61,17 +60,16 @@ fn pass_piece<I: Intake, O: Outlet, S: MaskStream, H: TagHash>(
 }
 
 // Passes at most `length` bytes, and returns how many came.
-pub(crate) fn pass_body<I: Intake, O: Outlet, S: MaskStream, H: TagHash>(
-    order: Order,
+pub(crate) fn pass_body<I: Intake, S: Stage, O: Outlet>(
     intake: &mut I,
-    masking: &mut Masking<S, H>,
+    stage: &mut S,
     length: u64,
     outlet: &mut O,
 ) -> Result<u64, Fault>
-    requires { masking.old.authenticator.length + length ≤ masking.old.limit }
-    ensures passed { (t : Task) → HoldsMasking S.made H.held (hashed_by order) masking.old t [] →
-        Passed (HoldsMasking S.made H.held (hashed_by order)) t [] length
-        (I.left intake.old) (I.left intake.new) (O.taken outlet.old) (O.taken outlet.new) masking.new result }
+    requires { length < S.room stage.old }
+    ensures passed { (m : S.Message) → S.holds m stage.old [] → length ≤ S.limit m →
+        Passed (S.holds m) (S.mask m) [] length
+        (I.left intake.old) (I.left intake.new) (O.taken outlet.old) (O.taken outlet.new) stage.new result }
     ensures blame { DueToBoth [] (I.failures intake.old) (I.failures intake.new) (O.failures outlet.old)
         (O.failures outlet.new) result }
 {
@@ -79,7 +77,7 @@ pub(crate) fn pass_body<I: Intake, O: Outlet, S: MaskStream, H: TagHash>(
     let mut done = 0;
     while done < length {
         let want = (length - done).min(4096) as usize;
-        let n = pass_piece(order, intake, masking, &mut buf[..want], outlet)?;
+        let n = pass_piece(intake, stage, &mut buf[..want], outlet)?;
         done += n as u64;
         if n < want {
             return Ok(done);
@@ -131,22 +129,21 @@ pub(crate) fn finding_of<I: Intake>(
 
 // Passes a whole reading: the body of the measured length, the measured tag, and the end.
 pub(crate) fn pass<I: Intake, O: Outlet, S: MaskStream, H: TagHash>(
-    order: Order,
     intake: &mut I,
     mut opening: Masking<S, H>,
     measured: &Measured,
     outlet: &mut O,
 ) -> Result<Finding, Fault>
     requires { opening.authenticator.length + measured.now.length ≤ opening.limit + 16 }
-    ensures passed { (s : Setting)
-        → HoldsMasking S.made H.held (hashed_by order) opening (message_task s measured.now.tag) []
-        → MakesTextTag (hashed_by order) s measured.now.tag →
+    ensures passed { (o : Order) (s : Setting)
+        → HoldsMasking S.made H.held (message_task o s measured.now.tag) opening []
+        → MakesTextTag (hashed_by o) s measured.now.tag →
         PassedWhole s measured.now.tag measured.now.length (I.left intake.old) (I.left intake.new)
         (O.taken outlet.old) (O.taken outlet.new) result }
     ensures blame { DueToBoth [] (I.failures intake.old) (I.failures intake.new) (O.failures outlet.old)
         (O.failures outlet.new) result }
 {
-    match pass_body(order, intake, &mut opening, measured.length - 16, outlet) {
+    match pass_body(intake, &mut opening, measured.length - 16, outlet) {
         Ok(n) => finding_of(intake, measured, n, opening.finish()),
         Err(fault) => Err(fault),
     }
@@ -166,21 +163,20 @@ pub(crate) fn has_more<I: Intake>(intake: &mut I) -> Result<bool, Fault>
 
 // Passes a reading to its end, and returns its length. If it is longer than `length` bytes, only the first `length` are passed,
 // and the result is `None`.
-pub(crate) fn pass_all<I: Intake, O: Outlet, S: MaskStream, H: TagHash>(
-    order: Order,
+pub(crate) fn pass_all<I: Intake, S: Stage, O: Outlet>(
     intake: &mut I,
-    masking: &mut Masking<S, H>,
+    stage: &mut S,
     length: u64,
     outlet: &mut O,
 ) -> Result<Option<u64>, Fault>
-    requires { masking.old.authenticator.length + length ≤ masking.old.limit }
-    ensures passed { (t : Task) → HoldsMasking S.made H.held (hashed_by order) masking.old t [] →
-        PassedAll (HoldsMasking S.made H.held (hashed_by order)) t length
-        (I.left intake.old) (I.left intake.new) (O.taken outlet.old) (O.taken outlet.new) masking.new result }
+    requires { length < S.room stage.old }
+    ensures passed { (m : S.Message) → S.holds m stage.old [] → length ≤ S.limit m →
+        PassedAll (S.holds m) (S.mask m) length
+        (I.left intake.old) (I.left intake.new) (O.taken outlet.old) (O.taken outlet.new) stage.new result }
     ensures blame { DueToBoth [] (I.failures intake.old) (I.failures intake.new) (O.failures outlet.old)
         (O.failures outlet.new) result }
 {
-    let n = match pass_body(order, intake, masking, length, outlet) {
+    let n = match pass_body(intake, stage, length, outlet) {
         Ok(n) => n,
         Err(fault) => return Err(fault),
     };

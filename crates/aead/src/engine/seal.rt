@@ -31,9 +31,9 @@ fn seal_over<N: OnePass, I: Intake, O: Outlet>(
         (I.failures text.old) (I.failures text.new) (O.failures out.old) (O.failures out.new) result) }
 {
     let limit = message.suite().text_limit();
-    let mut sealing = Masking::empty(message.mask(), message.hash(), limit);
+    let mut sealing = Masking::empty(Order::MaskFirst, message.mask(), message.hash(), limit);
     sealing.begin(aad);
-    match pass_all(Order::MaskFirst, text, &mut sealing, limit, out) {
+    match pass_all(text, &mut sealing, limit, out) {
         Ok(Some(_)) => match give_all(out, sealing.finish().bytes()) {
             Ok(()) => Ok(()),
             Err(_) => Err(Fault::Write),

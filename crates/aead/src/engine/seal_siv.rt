@@ -1,23 +1,20 @@
 //! The engine that seals a stream in two readings, under AES-GCM-SIV (RFC 8452, 4): the tag of the first begins the mask of the
 //! second.
 
-ghost use Rattle.std.specs.Prelude.{◌≡◌, ◌↔◌, ◌+◌, ◌<◌, ◌≤◌, ◌^◌, ◌∷◌, ℕ, List, [], length, IfOk, IfSome, IsTrue};
-ghost use Rattle.aead.specs.Refusals.{DueToReading, DueToBoth, late_in_readings, UntouchedUnless};
-ghost use Rattle.aead.specs.Suites.{ByGcmSiv, construction_of, text_limit, aad_limit};
+ghost use Rattle.std.specs.Prelude.{◌≡◌, ◌↔◌, ◌<◌, ◌≤◌, ◌∷◌, ℕ, List, [], length, IfSome, IsTrue};
+ghost use Rattle.aead.specs.Refusals.{DueToBoth, late_in_readings, UntouchedUnless};
+ghost use Rattle.aead.specs.Suites.{ByGcmSiv, construction_of, aad_limit};
 ghost use Rattle.aead.specs.Sealing.{Setting, tag_of};
 ghost use Rattle.aead.specs.Ciphers.{setting};
-ghost use Rattle.aead.specs.Code.States.{HoldsAuthenticator};
-ghost use Rattle.aead.specs.Code.Masks.{as_it_comes};
 ghost use Rattle.aead.specs.Code.Maskings.{HoldsMasking, repeating_task};
-ghost use Rattle.aead.specs.Code.Absorbed.{AbsorbReturns};
 ghost use Rattle.aead.specs.Pieces.{Repeats};
 ghost use Rattle.aead.specs.SealSivStream.{WritesAgain, SealsSivStream, SivBlames, IfBothKnown};
 
 use crate::aead::Aead;
 use crate::authenticator::Authenticator;
 use crate::beside::Order;
-use crate::engine::passes::{has_more, pass_all};
-use crate::engine::verifying::absorb_body;
+use crate::engine::discard::Discard;
+use crate::engine::passes::pass_all;
 use crate::gcm_siv::GcmSiv;
 use crate::hashes::TagHash;
 use crate::mask::MaskStream;
@@ -26,36 +23,11 @@ use crate::two_pass::TwoPass;
 use gf128::{Keyed128, WideMul};
 use octets::{Fault, Intake, Nonce, Outlet, Tag, give_all, same};
 
-// Authenticates a reading to its end, and returns whether its length is within a limit.
-fn absorb_all<I: Intake, H: TagHash>(
-    intake: &mut I,
-    reading: &mut Authenticator<H>,
-    limit: u64,
-) -> Result<bool, Fault>
-    requires { reading.old.length ≡ 0 }
-    ensures taken { (s : Setting) → HoldsAuthenticator H.held reading.old s [] → limit ≤ text_limit s.suite →
-        AbsorbReturns H.held s limit (I.left intake.old) (I.left intake.new) reading.new result }
-    ensures blame { DueToReading [] (I.failures intake.old) (I.failures intake.new) result }
-{
-    let n = match absorb_body(intake, reading, limit) {
-        Ok(n) => n,
-        Err(fault) => return Err(fault),
-    };
-    if n < limit {
-        return Ok(true);
-    }
-    match has_more(intake) {
-        Ok(true) => Ok(false),
-        Ok(false) => Ok(true),
-        Err(fault) => Err(fault),
-    }
-}
-
 // Returns whether a second reading has the length and the tag of the first one.
 fn repeats<S: MaskStream, H: TagHash>(again: Masking<S, H>, tag: &Tag) -> bool
     ensures { (s : Setting) (first text : List ℕ) → construction_of s.suite ≡ ByGcmSiv
         → tag.now ≡ tag_of s first
-        → HoldsMasking S.made H.held as_it_comes again (repeating_task s first) text
+        → HoldsMasking S.made H.held (repeating_task s first) again text
         → IsTrue result ↔ Repeats s first text }
 {
     let missing = again.limit - again.authenticator.length;
@@ -71,7 +43,7 @@ fn write_again<J: Intake, O: Outlet, S: MaskStream, H: TagHash>(
 ) -> Result<(), Fault>
     requires { again.authenticator.length ≡ 0 }
     ensures written { (s : Setting) (first : List ℕ) → construction_of s.suite ≡ ByGcmSiv
-        → tag.now ≡ tag_of s first → HoldsMasking S.made H.held as_it_comes again (repeating_task s first) [] →
+        → tag.now ≡ tag_of s first → HoldsMasking S.made H.held (repeating_task s first) again [] →
         IfSome (J.left intake.old) (λ b. WritesAgain s first b (O.taken outlet.old) (O.taken outlet.new)
         (J.failures intake.old) (J.failures intake.new) (O.failures outlet.old) (O.failures outlet.new)
         result) }
@@ -79,7 +51,7 @@ fn write_again<J: Intake, O: Outlet, S: MaskStream, H: TagHash>(
         (O.failures outlet.old) (O.failures outlet.new) result }
 {
     let length = again.limit;
-    match pass_all(Order::HashFirst, intake, &mut again, length, outlet) {
+    match pass_all(intake, &mut again, length, outlet) {
         Ok(Some(_)) => {
             if repeats(again, tag) {
                 match give_all(outlet, tag.bytes()) {
@@ -118,16 +90,25 @@ fn seal_over<N: TwoPass, I: Intake, J: Intake, O: Outlet>(
 {
     let mut reading = Authenticator::empty(message.hash());
     reading.begin(aad);
-    match absorb_all(first, &mut reading, message.suite().text_limit()) {
-        Ok(true) => {
-            let length = reading.length;
+    match pass_all(
+        first,
+        &mut reading,
+        message.suite().text_limit(),
+        &mut Discard,
+    ) {
+        Ok(Some(length)) => {
             let tag = reading.finish();
-            let mut again = Masking::empty(message.mask(&tag), message.hash(), length);
+            let mut again = Masking::empty(
+                Order::HashFirst,
+                message.mask(&tag),
+                message.hash(),
+                length,
+            );
             again.begin(aad);
             write_again(second, again, &tag, out)
         }
-        Ok(false) => Err(Fault::TextTooLong),
-        Err(fault) => Err(fault),
+        Ok(None) => Err(Fault::TextTooLong),
+        Err(_) => Err(Fault::Read),
     }
 }
 

@@ -16,6 +16,6 @@ returns-clause-passed g c =
     let mask = rw (sym empty.mask) at (c.mask.ensures c.args.aad.now tag) in
     let hash = rw (sym empty.hash) at (c.hash.ensures c.args.aad.now) in
     let limit = empty.limit ∙ c.text_limit-limit.ensures ∙ ap text_limit c.suite.ensures in
-    c.pass.ensures.passed s
-    (c.begin.ensures.holds HashFirst (message_task s tag) mask hash refl c.requires.aad_fits limit (omega arith))
+    c.pass.ensures.passed HashFirst s
+    (c.begin.ensures.holds (message_task HashFirst s tag) empty.order mask hash refl c.requires.aad_fits limit (omega arith))
     (λ body. sym (body_tag s tag body (g.met.N.OnePass.one_pass c.args.message.now)))

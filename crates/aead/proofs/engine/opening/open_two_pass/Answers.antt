@@ -17,6 +17,6 @@ returns-clause-passed g c =
     let mask = rw (sym empty.mask) at (c.mask-mask.ensures c.args.aad.now) in
     let hash = rw (sym empty.hash) at (c.hash.ensures c.args.aad.now) in
     let limit = empty.limit ∙ c.text_limit-limit.ensures ∙ ap text_limit c.suite.ensures in
-    c.pass.ensures.passed s
-    (c.begin.ensures.holds MaskFirst (message_task s tag) mask hash refl c.requires.aad_fits limit (omega arith))
+    c.pass.ensures.passed MaskFirst s
+    (c.begin.ensures.holds (message_task MaskFirst s tag) empty.order mask hash refl c.requires.aad_fits limit (omega arith))
     (λ body. sym (two_pass_tag s (unmasked s tag body) two))

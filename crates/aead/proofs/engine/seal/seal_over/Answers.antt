@@ -25,9 +25,10 @@ returns-in-Err-clause-seals g c =
     c.text_limit-limit.ensures ∙ ap text_limit c.suite.ensures in
     let mask = rw (sym empty.mask) at (c.mask.ensures c.args.aad.now []) in
     let hash = rw (sym empty.hash) at (c.hash.ensures c.args.aad.now) in
-    let h = c.begin.ensures.holds MaskFirst (message_task s []) mask hash refl c.requires (empty.limit ∙ limit) (omega arith) in
+    let h = c.begin.ensures.holds (message_task MaskFirst s []) empty.order mask hash refl c.requires
+    (empty.limit ∙ limit) (omega arith) in
     exit_stopped _ _ _ _ s _ _ _ _ _ _ limit one c.requires
-    (c.in-Err.ensures.passed (message_task s []) h) c.in-Err.ensures.blame
+    (c.in-Err.ensures.passed (message_task MaskFirst s []) h (omega (arith, limit))) c.in-Err.ensures.blame
 
 pub returns-in-Ok-None-clause-seals : goal.returns-in-Ok-None-clause-seals
 returns-in-Ok-None-clause-seals g c =
@@ -39,8 +40,10 @@ returns-in-Ok-None-clause-seals g c =
     c.text_limit-limit.ensures ∙ ap text_limit c.suite.ensures in
     let mask = rw (sym empty.mask) at (c.mask.ensures c.args.aad.now []) in
     let hash = rw (sym empty.hash) at (c.hash.ensures c.args.aad.now) in
-    let h = c.begin.ensures.holds MaskFirst (message_task s []) mask hash refl c.requires (empty.limit ∙ limit) (omega arith) in
-    let went = rw c.in-Ok-None.field-0-is at (c.in-Ok-None.ensures.passed (message_task s []) h) in
+    let h = c.begin.ensures.holds (message_task MaskFirst s []) empty.order mask hash refl c.requires
+    (empty.limit ∙ limit) (omega arith) in
+    let went = rw c.in-Ok-None.field-0-is
+    at (c.in-Ok-None.ensures.passed (message_task MaskFirst s []) h (omega (arith, limit))) in
     exit_long _ _ _ _ _ s _ _ _ _ _ _ limit one c.requires went
     c.in-Ok-None.ensures.blame
 
@@ -54,14 +57,15 @@ returns-in-Ok-clause-seals g c =
     c.text_limit-limit.ensures ∙ ap text_limit c.suite.ensures in
     let mask = rw (sym empty.mask) at (c.mask.ensures c.args.aad.now []) in
     let hash = rw (sym empty.hash) at (c.hash.ensures c.args.aad.now) in
-    let h = c.begin.ensures.holds MaskFirst (message_task s []) mask hash refl c.requires (empty.limit ∙ limit) (omega arith) in
+    let h = c.begin.ensures.holds (message_task MaskFirst s []) empty.order mask hash refl c.requires
+    (empty.limit ∙ limit) (omega arith) in
     let tag : List ℕ = c.finish.result in
     let size : length tag ≡ 16 = c.bytes.ensures.are_bytes.length_is in
     let R : List ℕ → Type 0 =
     λ b. Appends (g.O.Outlet.taken c.pass_all.new.outlet) (g.O.Outlet.taken c.give_all.new.outlet) b in
     exit_tag _ _ _ _ _ _ s _ tag _ _ 16 _ _ _ _ _ limit one c.requires
-    (rw c.in-Ok-Some.field-0-is at (c.in-Ok-Some.ensures.passed (message_task s []) h))
-    (λ text held. c.finish.ensures _ _ text held ∙ sym (one_pass_tag s [] text one))
+    (rw c.in-Ok-Some.field-0-is at (c.in-Ok-Some.ensures.passed (message_task MaskFirst s []) h (omega (arith, limit))))
+    (λ text held. c.finish.ensures _ text held ∙ sym (one_pass_tag s [] text one))
     (subst R (c.bytes.ensures.value ∙ sym (take_all 16 tag (omega (arith, size))))
     c.in-Ok.ensures.bytes)
     (inl (
@@ -82,7 +86,8 @@ returns-in-Err-give_all-clause-seals g c =
     c.text_limit-limit.ensures ∙ ap text_limit c.suite.ensures in
     let mask = rw (sym empty.mask) at (c.mask.ensures c.args.aad.now []) in
     let hash = rw (sym empty.hash) at (c.hash.ensures c.args.aad.now) in
-    let h = c.begin.ensures.holds MaskFirst (message_task s []) mask hash refl c.requires (empty.limit ∙ limit) (omega arith) in
+    let h = c.begin.ensures.holds (message_task MaskFirst s []) empty.order mask hash refl c.requires
+    (empty.limit ∙ limit) (omega arith) in
     let given = c.in-Err-give_all.ensures.bytes in
     let R : List ℕ → Type 0 =
     λ b. Appends (g.O.Outlet.taken c.pass_all.new.outlet) (g.O.Outlet.taken c.give_all.new.outlet)
@@ -90,8 +95,8 @@ returns-in-Err-give_all-clause-seals g c =
     let F : ℕ → Type 0 = λ n. Failed n (g.O.Outlet.failures c.give_all.new.outlet) in
     exit_tag _ _ _ _ _ _ s _ c.finish.result _ _ given.0 _ _ _ _ _ limit one
     c.requires
-    (rw c.in-Ok-Some.field-0-is at (c.in-Ok-Some.ensures.passed (message_task s []) h))
-    (λ text held. c.finish.ensures _ _ text held ∙ sym (one_pass_tag s [] text one))
+    (rw c.in-Ok-Some.field-0-is at (c.in-Ok-Some.ensures.passed (message_task MaskFirst s []) h (omega (arith, limit))))
+    (λ text held. c.finish.ensures _ text held ∙ sym (one_pass_tag s [] text one))
     (subst R c.bytes.ensures.value given.2)
     (inr (refl, subst F c.in-Ok-Some.ensures.blame.1 c.in-Err-give_all.ensures.count))
 

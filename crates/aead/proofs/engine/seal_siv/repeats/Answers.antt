@@ -7,7 +7,7 @@ use Rattle.aead.proofs.engine.seal_siv.repeats.Goals as goal
 pub returns-then-missing-eq0 : goal.returns-then-missing-eq0
 returns-then-missing-eq0 g c = λ s first text two is h.
     let tag_is : c.finish.result ≡ tag_of s text =
-    c.finish.ensures _ _ text h ∙ sym (two_pass_tag s text (ap is_one_pass two)) in (
+    c.finish.ensures _ text h ∙ sym (two_pass_tag s text (ap is_one_pass two)) in (
       λ e. (
         omega (arith, h.limit_is, h.count_is, c.if-missing-eq0.true),
         sym tag_is ∙ sym c.bytes.ensures.value ∙ c.same.ensures.0 e

@@ -12,10 +12,10 @@ returns-in-Ok-clause-passed g c =
     let fits : c.args.measured.now.length - 16 ≤ text_limit s.suite = omega (arith, c.requires.high) in
     let hash = rw (sym c.empty-reading.ensures.0) at (c.hash.ensures c.args.aad.now) in
     let begun = c.begin.ensures.holds s refl c.requires.aad_fits hash in
-    let w = c.in-Ok.ensures.taken s begun fits in
+    let q = c.in-Ok.ensures.passed s begun fits in
     c.finding_of.ensures.found s _ _ _
-    (took_read g.N.Hash.TagHash.held s _ _ _ _ _ c.absorb_body.new.reading _ (g.met.N.OnePass.one_pass c.args.message.now)
-    c.requires.key c.in-Ok.ensures.bound w (c.finish.ensures s w.0 w.2))
+    (took_read g.N.Hash.TagHash.held s _ _ _ _ _ c.pass_body.new.stage _ (g.met.N.OnePass.one_pass c.args.message.now)
+    c.requires.key q (c.finish.ensures s q.bytes q.went.held))
 
 pub returns-in-Err-clause-passed : goal.returns-in-Err-clause-passed
 returns-in-Err-clause-passed g c =
@@ -24,5 +24,4 @@ returns-in-Err-clause-passed g c =
     let fits : c.args.measured.now.length - 16 ≤ text_limit s.suite = omega (arith, c.requires.high) in
     let hash = rw (sym c.empty-reading.ensures.0) at (c.hash.ensures c.args.aad.now) in
     let begun = c.begin.ensures.holds s refl c.requires.aad_fits hash in
-    let e = c.in-Err.ensures.taken s begun fits in
-    stopped_read s _ _ _ _ e.0 e.1
+    stopped_read _ _ _ _ _ (c.in-Err.ensures.passed s begun fits)
