@@ -249,13 +249,25 @@ def _suite_of(suite: int) -> Suite:
 # are complex numbers. Fields of structs have names.
 _has_addresses = re.compile("[&OPXz]|Z(?![fdg])").search
 _field_name = re.compile(":[^:]*:")
+_composed = (ctypes.Structure, ctypes.Union, ctypes.Array)
+
+
+def _has_pointers(kind: Any) -> bool:
+    """Whether a type of ctypes has addresses in it. Of a union, of a packed struct and of the fields of a base class, the format
+    does not say so."""
+    if issubclass(kind, ctypes.Array):
+        return _has_pointers(kind._type_)
+    if issubclass(kind, _composed):
+        return any(_has_pointers(field[1]) for base in kind.__mro__ for field in vars(base).get("_fields_", ()))
+    return bool(_has_addresses(memoryview(kind()).format))
 
 
 def _view_of(data: Buffer) -> memoryview:
     """The memory of the data, if it holds the bytes that the caller means: no addresses of something else."""
     view = memoryview(data)
     form = view.format
-    if form != "B" and _has_addresses(_field_name.sub("", form)):
+    if (form != "B" and _has_addresses(_field_name.sub("", form))
+            or isinstance(view.obj, _composed) and _has_pointers(type(view.obj))):
         view.release()
         raise TypeError(f"the bytes of a {type(data).__name__!r} are addresses, and not what stands there")
     return view
