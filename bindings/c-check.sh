@@ -249,12 +249,18 @@ for record in 0 999 1000 3999; do
     does 1 "$room/threads" $record
     [ "$(cat "$room/out")" = "3999 of 4000 records opened" ]
 done
-# An output that cannot be written is a failure.
+# An output that cannot be written is a failure, also if it is written line by line, as to a terminal, or without a buffer.
 if [ -e /dev/full ]; then
-    for example in message threads; do
-        status=0
-        "$room/$example" > /dev/full 2> "$room/fault" || status=$?
-        [ $status = 1 ] || { echo "$example writes nothing and ends with $status" >&2; exit 1; }
+    ways=full
+    ! stdbuf --version > "$room/log" 2>&1 || ways="full line none"
+    for way in $ways; do
+        case $way in line) through="stdbuf -oL" ;; none) through="stdbuf -o0" ;; *) through= ;; esac
+        for example in message threads; do
+            status=0
+            ASAN_OPTIONS=$ASAN_OPTIONS:verify_asan_link_order=0 $through "$room/$example" > /dev/full 2> "$room/fault" || status=$?
+            [ $status = 1 ] && [ ! -s "$room/fault" ] \
+                || { echo "$example writes nothing and ends with $status" >&2; cat "$room/fault" >&2; exit 1; }
+        done
     done
 fi
 echo "ok: the examples, whole and damaged: messages, files, wrappings and threads"
