@@ -241,6 +241,15 @@ does 1 "$room/wrap" wrap "$room/user-key" < "$room/text"
 grep -q "wrong length for wrapping" "$room/fault"
 does 1 "$room/wrap" wraps "$room/user-key" < "$room/text"
 grep -q "WAY is wrap" "$room/fault"
+# a pipe that does not wait, and has as many bytes as there is room for, but is not at its end
+head -c 4096 /dev/urandom > "$room/text"
+{
+    cat "$room/text" >&3
+    if dd iflag=nonblock count=0 <&3 2> "$room/log"; then
+        does 1 "$room/wrap" wrap "$room/user-key" <&3
+        grep -q "a file cannot be read" "$room/fault"
+    fi
+} 3<> "$room/pipe"
 
 # The threads.
 does 0 "$room/threads"
