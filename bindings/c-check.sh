@@ -195,6 +195,15 @@ for other in "$room/pipe" "$folder/link"; do
 done
 [ -p "$room/pipe" ] && [ -L "$folder/link" ] || { echo "an output that is not a file is replaced by one" >&2; exit 1; }
 rm "$folder/link"
+# an OUT with the longest name that the system takes has no temporary name beside it, and stays as it was
+deep=$room/deep
+while [ ${#deep} -lt 3840 ]; do deep=$deep/$(printf %0200d 0); done
+if mkdir -p "$deep" 2> "$room/log"; then
+    deep=$deep/$(printf "%0$((4094 - ${#deep}))d" 0)
+    cp "$room/text" "$deep"
+    does 1 "$room/file" seal "$room/key" label "$folder/opened" "$deep"
+    cmp -s "$room/text" "$deep" || { echo "file removes an OUT with a long name" >&2; exit 1; }
+fi
 # a file with more bytes than its length says would be cut off
 does 1 "$room/file" seal "$room/key" label /dev/zero "$folder/opened"
 grep -q "longer than it was" "$room/fault"

@@ -13,7 +13,7 @@
 #include <unistd.h>
 
 enum { SUITE = AEADKIT_CHACHA20_POLY1305, KEY = 32, NONCE = AEADKIT_NONCE_BYTES, TAG = AEADKIT_TAG_BYTES, PIECE = 1 << 16 };
-static char temporary[4096];
+static char temporary[4096 + 8]; /* the longest name, and what mkstemp wants behind it: if it were cut, it could be OUT itself */
 static uint8_t key[KEY + 1], nonce[NONCE], tag[TAG], piece[PIECE];
 
 static void need(int holds, const char *why) {
