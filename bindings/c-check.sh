@@ -195,6 +195,15 @@ for other in "$room/pipe" "$folder/link"; do
 done
 [ -p "$room/pipe" ] && [ -L "$folder/link" ] || { echo "an output that is not a file is replaced by one" >&2; exit 1; }
 rm "$folder/link"
+# the key is not replaced by what only it opens
+cp "$room/key" "$folder/key"
+ln -s key "$folder/link"
+for name in key link; do
+    does 1 "$room/file" seal "$folder/$name" label "$folder/opened" "$folder/key"
+    grep -q "OUT is KEYFILE" "$room/fault"
+done
+cmp "$room/key" "$folder/key"
+rm "$folder/link" "$folder/key"
 # an OUT with the longest name that the system takes has no temporary name beside it, and stays as it was
 deep=$room/deep
 while [ ${#deep} -lt 3840 ]; do deep=$deep/$(printf %0200d 0); done
