@@ -195,6 +195,24 @@ for other in "$room/pipe" "$folder/link"; do
 done
 [ -p "$room/pipe" ] && [ -L "$folder/link" ] || { echo "an output that is not a file is replaced by one" >&2; exit 1; }
 rm "$folder/link"
+# the key is not replaced by what only it opens
+cp "$room/key" "$folder/key"
+ln -s key "$folder/link"
+for name in key link; do
+    does 1 "$room/file" seal "$folder/$name" label "$folder/opened" "$folder/key"
+    grep -q "OUT is KEYFILE" "$room/fault"
+done
+cmp "$room/key" "$folder/key"
+rm "$folder/link" "$folder/key"
+# an OUT with the longest name that the system takes has no temporary name beside it, and stays as it was
+deep=$room/deep
+while [ ${#deep} -lt 3840 ]; do deep=$deep/$(printf %0200d 0); done
+if mkdir -p "$deep" 2> "$room/log"; then
+    deep=$deep/$(printf "%0$((4094 - ${#deep}))d" 0)
+    cp "$room/text" "$deep"
+    does 1 "$room/file" seal "$room/key" label "$folder/opened" "$deep"
+    cmp -s "$room/text" "$deep" || { echo "file removes an OUT with a long name" >&2; exit 1; }
+fi
 # a file with more bytes than its length says would be cut off
 does 1 "$room/file" seal "$room/key" label /dev/zero "$folder/opened"
 grep -q "longer than it was" "$room/fault"
@@ -241,6 +259,15 @@ does 1 "$room/wrap" wrap "$room/user-key" < "$room/text"
 grep -q "wrong length for wrapping" "$room/fault"
 does 1 "$room/wrap" wraps "$room/user-key" < "$room/text"
 grep -q "WAY is wrap" "$room/fault"
+# a pipe that does not wait, and has as many bytes as there is room for, but is not at its end
+head -c 4096 /dev/urandom > "$room/text"
+{
+    cat "$room/text" >&3
+    if dd iflag=nonblock count=0 <&3 2> "$room/log"; then
+        does 1 "$room/wrap" wrap "$room/user-key" <&3
+        grep -q "a file cannot be read" "$room/fault"
+    fi
+} 3<> "$room/pipe"
 
 # The threads.
 does 0 "$room/threads"
@@ -249,12 +276,18 @@ for record in 0 999 1000 3999; do
     does 1 "$room/threads" $record
     [ "$(cat "$room/out")" = "3999 of 4000 records opened" ]
 done
-# An output that cannot be written is a failure.
+# An output that cannot be written is a failure, also if it is written line by line, as to a terminal, or without a buffer.
 if [ -e /dev/full ]; then
-    for example in message threads; do
-        status=0
-        "$room/$example" > /dev/full 2> "$room/fault" || status=$?
-        [ $status = 1 ] || { echo "$example writes nothing and ends with $status" >&2; exit 1; }
+    ways=full
+    ! stdbuf --version > "$room/log" 2>&1 || ways="full line none"
+    for way in $ways; do
+        case $way in line) through="stdbuf -oL" ;; none) through="stdbuf -o0" ;; *) through= ;; esac
+        for example in message threads; do
+            status=0
+            ASAN_OPTIONS=$ASAN_OPTIONS:verify_asan_link_order=0 $through "$room/$example" > /dev/full 2> "$room/fault" || status=$?
+            [ $status = 1 ] && [ ! -s "$room/fault" ] \
+                || { echo "$example writes nothing and ends with $status" >&2; cat "$room/fault" >&2; exit 1; }
+        done
     done
 fi
 echo "ok: the examples, whole and damaged: messages, files, wrappings and threads"

@@ -137,6 +137,19 @@ wait
 [ "$(sort -- "a text.status" ./-other.status | tr '\n' ' ')" = "0 2 " ] || { echo "two runs at once made one file" >&2; exit 1; }
 want 0 open key "$label" both opened-both
 cmp -s opened-both "a text" || cmp -- opened-both -other
+# a file that gets the name of OUT meanwhile stays, such as what another run opened
+cat > meanwhile <<END
+#!/bin/sh
+echo another > out
+exec "$prefix/bin/aeadkit" "\$@"
+END
+chmod +x meanwhile
+for words in "seal:a text" "open:a sealed text"; do
+    status=0
+    AEADKIT=./meanwhile "$here/examples/files.sh" "${words%%:*}" key "$label" "${words#*:}" out 2> fault || status=$?
+    [ "$status $(cat out) $(echo out*)" = "3 another out" ] || { echo "files.sh ${words%%:*} replaces a file" >&2; exit 1; }
+    rm out
+done
 echo "ok: files by a script, whole, damaged, cut and exchanged"
 
 # The two builds of the program say the same version, and seal and open a file to the same bytes. bin has one of them.

@@ -15,7 +15,8 @@
    Under one data key no nonce comes twice, because the segments are counted.
 
    A segment's text is written when the segment is authentic, before the next one is read. So after a failure the output is a
-   beginning of the text that was sealed, and to be thrown away: only status 0 says that it is the whole.
+   beginning of the text that was sealed, and to be thrown away: only status 0 says that it is the whole. A program that fails
+   while it writes to the pipe leaves a beginning too, which is sealed like a whole text: look at its status as well.
    Status: 0 done; 1 not authentic: changed, cut, or sealed under another key or label; 2 wrong words or key file; 3 a read or
    a write failed. */
 #define _DEFAULT_SOURCE

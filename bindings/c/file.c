@@ -2,7 +2,7 @@
    KEYFILE holds 32 random bytes, for at most 2^32 files, since the nonces are random. A sealed file is the nonce, the ciphertext
    and the tag. LABEL says what the file is; it is not stored, and another one does not open the file. No text is written before a
    first pass has found the sealing valid, and OUT has a temporary name until it is complete: at status 1 it is as it was. OUT is a
-   new file or a regular one: a link or a device would be replaced by a file, and is refused. */
+   new file or a regular one: a link or a device would be replaced by a file, and is refused. So is KEYFILE. */
 #define _DEFAULT_SOURCE
 #include "aeadkit.h"
 #include <errno.h>
@@ -13,7 +13,7 @@
 #include <unistd.h>
 
 enum { SUITE = AEADKIT_CHACHA20_POLY1305, KEY = 32, NONCE = AEADKIT_NONCE_BYTES, TAG = AEADKIT_TAG_BYTES, PIECE = 1 << 16 };
-static char temporary[4096];
+static char temporary[4096 + 8]; /* the longest name, and what mkstemp wants behind it: if it were cut, it could be OUT itself */
 static uint8_t key[KEY + 1], nonce[NONCE], tag[TAG], piece[PIECE];
 
 static void need(int holds, const char *why) {
@@ -30,14 +30,16 @@ static void done(uint32_t status) {
 }
 
 int main(int count, char **words) {
-    struct aeadkit_sealer s; struct aeadkit_opener o; struct stat found;
-    int sealing = count == 6 && !strcmp(words[1], "seal"), file;
+    struct aeadkit_sealer s; struct aeadkit_opener o; struct stat found, held;
+    int sealing = count == 6 && !strcmp(words[1], "seal"), file, there;
     need(sealing || (count == 6 && !strcmp(words[1], "open")), "usage: file seal|open KEYFILE LABEL IN OUT");
     FILE *keys = fopen(words[2], "rb"), *in = fopen(words[4], "rb"), *out;
     need(keys && in && !fseeko(in, 0, SEEK_END), NULL);
     off_t text = ftello(in) - (sealing ? 0 : NONCE + TAG);
     need(fread(key, 1, KEY + 1, keys) == KEY && text >= 0, "KEYFILE is not 32 bytes long, or IN is shorter than a sealing");
-    need(lstat(words[5], &found) || S_ISREG(found.st_mode), "OUT is not a regular file, and would be replaced by one");
+    there = !lstat(words[5], &found);
+    need(!there || S_ISREG(found.st_mode), "OUT is not a regular file, and would be replaced by one");
+    need(!fstat(fileno(keys), &held) && (!there || held.st_ino != found.st_ino || held.st_dev != found.st_dev), "OUT is KEYFILE");
     snprintf(temporary, sizeof temporary, "%s.XXXXXX", words[5]);
     need((file = mkstemp(temporary)) >= 0 && (out = fdopen(file, "wb")), NULL);
     need(sealing ? !getentropy(nonce, NONCE) && fwrite(nonce, 1, NONCE, out) == NONCE

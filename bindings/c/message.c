@@ -49,5 +49,5 @@ int main(int count, char **words) {
                                                     place, TEXT, tag))) printf("%.*s\n", TEXT, (const char *)place);
     else all = 0; /* `place` is still the ciphertext */
     explicit_bzero(key, KEY);
-    return fclose(stdout) || !all; /* a text that was not written does not count */
+    return ferror(stdout) || fclose(stdout) || !all; /* a text that was not written does not count */
 }

@@ -50,5 +50,5 @@ int main(int count, char **words) {
     int opened = in_threads();
     printf("%d of %d records opened\n", opened, ALL);
     aeadkit_key_wipe(&shared);
-    return fclose(stdout) || opened != ALL;
+    return ferror(stdout) || fclose(stdout) || opened != ALL;
 }

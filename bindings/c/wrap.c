@@ -17,10 +17,10 @@ static void stop(const char *what) {
     exit(1);
 }
 
-/* Reads a file to its end. */
+/* Reads a file to its end. EOF may also be a failure: a pipe that does not wait may have more bytes later. */
 static size_t all_of(FILE *file, uint8_t *to, size_t room) {
     size_t length = file ? fread(to, 1, room, file) : 0;
-    if (!file || ferror(file) || fgetc(file) != EOF) stop("a file cannot be read, or is too long");
+    if (!file || fgetc(file) != EOF || ferror(file)) stop("a file cannot be read, or is too long");
     return length;
 }
 

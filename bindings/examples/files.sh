@@ -14,7 +14,8 @@
 #   its own OUT.how, only if its label is the same: let the label say what the file is, and when it was sealed;
 # - a nonce that comes twice: it is drawn at random for each file, and a repeat under AES-GCM-SIV gives away only whether text
 #   and label were the same.
-# OUT must not exist. It is written under another name, and gets its own after status 0.
+# OUT must not exist. It is written under another name, and gets its own after status 0. If another file has got the name
+# meanwhile, that file stays, and the status is 3.
 #
 # Status: 0 done; 1 not authentic: changed, cut, or sealed under another key, suite, nonce or label; 2 wrong words, key or
 # OUT.how; 3 a file failed, or changed while it was read; 4 out of memory.
@@ -81,4 +82,8 @@ open)
     ;;
 *) fail 2 "$usage" ;;
 esac
-mv "$new" "$out" || fail 3 "$out can't be written"
+# ln, unlike mv, replaces no file that got the name meanwhile. Where a file can't have two names, mv is what is left.
+if [ -e "$out" ] || ! { ln "$new" "$out" 2> /dev/null || { [ ! -e "$out" ] && mv "$new" "$out"; }; }; then
+    [ "$1" = open ] || rm -f "$how"
+    fail 3 "$out was made meanwhile, or can't be written"
+fi

@@ -24,9 +24,10 @@ other thread or process may read or write the buffer during such a call: an open
 sealed. The tag of 16 bytes is separate; the ciphertext and then the tag are the sealing that open takes. If an exception from
 a signal handler, such as KeyboardInterrupt, ends the call, the buffer of seal_in_place is as before, and that of open_in_place
 may hold the text already. A sealing or an opening in pieces is closed if such an exception ends its call on a piece, since
-nobody knows whether the piece was taken. Python before 3.11 may also raise it between the end of a call and the next step of the
-caller, and a task that is cancelled while it waits for a call in another thread does not get the result either. The result is lost
-then, though the call was done: close the object, and begin anew under another nonce.
+nobody knows whether the piece was taken. From Python 3.11 on this also holds if two signals come during a call, whose handlers
+raise an exception each; of three nothing is promised. Python before 3.11 may also raise it between the end of a call and the next
+step of the caller, and a task that is cancelled while it waits for a call in another thread does not get the result either. The
+result is lost then, though the call was done: close the object, and begin anew under another nonce.
 
 A nonce is 12 bytes long. It is not secret, but it must never be used for two sealings under one key, and nothing here notices
 a repeat. Two sealings with one nonce give away the XOR of their texts, and enough to forge messages under the key; under
@@ -249,13 +250,25 @@ def _suite_of(suite: int) -> Suite:
 # are complex numbers. Fields of structs have names.
 _has_addresses = re.compile("[&OPXz]|Z(?![fdg])").search
 _field_name = re.compile(":[^:]*:")
+_composed = (ctypes.Structure, ctypes.Union, ctypes.Array)
+
+
+def _has_pointers(kind: Any) -> bool:
+    """Whether a type of ctypes has addresses in it. Of a union, of a packed struct and of the fields of a base class, the format
+    does not say so."""
+    if issubclass(kind, ctypes.Array):
+        return _has_pointers(kind._type_)
+    if issubclass(kind, _composed):
+        return any(_has_pointers(field[1]) for base in kind.__mro__ for field in vars(base).get("_fields_", ()))
+    return bool(_has_addresses(memoryview(kind()).format))
 
 
 def _view_of(data: Buffer) -> memoryview:
     """The memory of the data, if it holds the bytes that the caller means: no addresses of something else."""
     view = memoryview(data)
     form = view.format
-    if form != "B" and _has_addresses(_field_name.sub("", form)):
+    if (form != "B" and _has_addresses(_field_name.sub("", form))
+            or isinstance(view.obj, _composed) and _has_pointers(type(view.obj))):
         view.release()
         raise TypeError(f"the bytes of a {type(data).__name__!r} are addresses, and not what stands there")
     return view
@@ -356,6 +369,9 @@ def _sealed_in_place(text: Buffer, seal_call: Callable[..., int], open_call: Cal
         try:
             if any(tag.raw):
                 _in_place(room, open_call, arguments, tag)
+        except BaseException:
+            # The handler of another signal came in between. If the buffer is open already, this is refused, and changes nothing.
+            _in_place(room, open_call, arguments, tag)
         finally:
             room.release()
             del arguments
@@ -557,7 +573,10 @@ class _InPieces(_HasStruct):
         try:
             _check(self._call(function, *slices))
         except BaseException as error:
-            self._end(error)
+            try:
+                self._end(error)
+            except BaseException:  # of the handler of another signal
+                self._end(error)
             raise
 
     def _change(self, function: Callable[..., int], piece: Buffer) -> bytes:
@@ -570,7 +589,10 @@ class _InPieces(_HasStruct):
             _check(status)
             return copy.getvalue()
         except BaseException as error:
-            self._end(error)
+            try:
+                self._end(error)
+            except BaseException:  # of the handler of another signal
+                self._end(error)
             raise
 
     def _change_in_place(self, function: Callable[..., int], piece: Buffer) -> None:
@@ -580,8 +602,11 @@ class _InPieces(_HasStruct):
             _check(_in_place(room, self._call, (function,)))
             room.release()
         except BaseException as error:
+            try:
+                self._end(error)
+            except BaseException:  # of the handler of another signal
+                self._end(error)
             room.release()
-            self._end(error)
             raise
 
     def _is_unfinished(self) -> bool:

@@ -6,7 +6,7 @@ the state that comes after the piece. The next step replaces it on the disk befo
 that are sealed from one state are never seen, even if IN is changed between two runs. But OUT would then be the sealing of
 a text that never was: if IN has another length or time of change than at first, it is refused. So is an OUT that was removed, or
 has another length: it would get the rest of the sealing alone. Two runs at once would go on from one state: the second one is
-refused.
+refused. An OUT that is IN or KEYFILE is refused too.
 
 OUT.step is as secret as KEYFILE, and must lie where nobody else can write. It is removed when OUT is whole.
 """
@@ -76,5 +76,7 @@ if __name__ == "__main__":
     if len(sys.argv) != 4:
         sys.exit("usage: resume.py KEYFILE IN OUT")
     os.umask(0o077)
+    if os.path.exists(sys.argv[3]) and os.path.samefile(sys.argv[1], sys.argv[3]):
+        sys.exit("KEYFILE and OUT are one file: the key would be lost")
     with open(sys.argv[1], "rb") as key_file:
         seal_file(key_file.read(), *sys.argv[2:])

@@ -9,7 +9,8 @@ stored:
 - segments of another text are refused, which has another key; and another text as a whole, if its LABEL is another one
 - an earlier text with the same LABEL is NOT noticed
 Each segment is written as soon as it was opened. If a later one is refused, the status is 1, and OUT is a true beginning of
-the text and no more: throw it away unless the status is 0.
+the text and no more: throw it away unless the status is 0. A program that fails while it writes to the pipe leaves a beginning
+too, which is sealed like a whole text: look at its status as well.
 """
 
 import os

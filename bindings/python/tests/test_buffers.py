@@ -230,13 +230,37 @@ class Buffers(unittest.TestCase):
         class Record(ctypes.Structure):
             _fields_ = [("number", ctypes.c_uint32), ("text", ctypes.c_char_p)]
 
+        # of the next four, and of what contains one of them, the format does not tell every address
+        class Either(ctypes.Union):
+            _fields_ = [("number", ctypes.c_uint64), ("text", ctypes.c_char_p)]
+
+        class Packed(ctypes.Structure):
+            _pack_ = 1
+            _fields_ = [("number", ctypes.c_uint32), ("text", ctypes.c_char_p)]
+
+        class Longer(Record):
+            _fields_ = [("more", ctypes.c_uint32)]
+
+        class Holder(ctypes.Structure):
+            _fields_ = [("many", Either * 2), ("number", ctypes.c_uint32)]
+
         class Numbers(ctypes.Structure):
             _fields_ = [("P", ctypes.c_uint32), ("zO", ctypes.c_uint32)]
 
+        class EitherNumber(ctypes.Union):
+            _fields_ = [("long", ctypes.c_uint64), ("short", Numbers), ("bits", ctypes.c_uint8 * 8)]
+
+        class PackedNumbers(Numbers):
+            _pack_ = 1
+            _fields_ = [("one", ctypes.c_uint8), ("either", EitherNumber), ("few", ctypes.c_uint8, 3)]
+
         objects = [ctypes.c_char_p(TEXT), ctypes.c_wchar_p("a text"), ctypes.c_void_p(1), ctypes.py_object(TEXT),
                    ctypes.pointer(ctypes.c_uint32(7)), (ctypes.c_char_p * 2)(TEXT, TEXT), (ctypes.py_object * 2)(TEXT, TEXT),
-                   Record(1, TEXT), (Record * 2)(), ctypes.CFUNCTYPE(None)(print), memoryview(ctypes.c_char_p(TEXT))]
-        plain = [Numbers(1, 2), (Numbers * 2)(), ctypes.create_string_buffer(TEXT), ctypes.create_unicode_buffer("a text")]
+                   Record(1, TEXT), (Record * 2)(), ctypes.CFUNCTYPE(None)(print), memoryview(ctypes.c_char_p(TEXT)),
+                   Either(text=TEXT), (Either * 2)(), Packed(1, TEXT), (Packed * 2)(), Longer(1, TEXT), Holder(),
+                   memoryview(Either(text=TEXT))]
+        plain = [Numbers(1, 2), (Numbers * 2)(), ctypes.create_string_buffer(TEXT), ctypes.create_unicode_buffer("a text"),
+                 EitherNumber(7), PackedNumbers(1), (PackedNumbers * 2)(), (ctypes.c_uint8 * 3 * 2)()]
         if "numpy" in sys.modules:
             objects += [numpy.array([TEXT, TEXT], dtype=object), numpy.zeros(2, dtype=[("a", "i4"), ("b", object)])]
             plain += [numpy.zeros(4, dtype="c16"), numpy.zeros(2, dtype=[("Z", "i4"), ("O", "c8")]), numpy.array(["text"])]

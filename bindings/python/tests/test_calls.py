@@ -1,14 +1,17 @@
 """The calls' arguments, results, exceptions and help, and what a refusal leaves."""
 
 import builtins
+import ctypes
 import doctest
 import enum
 import inspect
 import itertools
 import numbers
 import pickle
+import signal
 import subprocess
 import sys
+import threading
 import unittest
 import unittest.mock
 import warnings
@@ -621,6 +624,62 @@ class Closing(unittest.TestCase):
                 self.assertRaisesRegex(aeadkit.NotBegun, "closed", state.finish)
                 if type(piece) is bytearray:
                     piece += b"more"
+
+    @unittest.skipUnless(sys.version_info >= (3, 11) and hasattr(signal, "pthread_kill"), "a handler may run at any step")
+    def test_the_exceptions_of_two_signals(self):
+        """If both came during a call, the second one is raised in what is done after the first one."""
+
+        class First(Exception):
+            pass
+
+        class Second(Exception):
+            pass
+
+        def interrupted(name):
+            real = getattr(aeadkit._library, name)
+
+            def after(*arguments):
+                real(*arguments)
+                signal.pthread_sigmask(signal.SIG_BLOCK, handlers)
+                for number in handlers:
+                    signal.pthread_kill(threading.get_ident(), number)
+                # both come at once, and the handlers run after this call: that of the module signal would run the first one itself
+                ctypes.CDLL(None).pthread_sigmask(signal.SIG_UNBLOCK, both, None)
+
+            return unittest.mock.patch.object(aeadkit._library, name, after)
+
+        def first(*_):
+            raise First()
+
+        def second(*_):
+            raise Second()
+
+        handlers = {signal.SIGUSR1: first, signal.SIGUSR2: second}
+        both = (ctypes.c_uint64 * 16)(sum(1 << number - 1 for number in handlers))
+        for number, handler in handlers.items():
+            self.addCleanup(signal.signal, number, signal.signal(number, handler))
+        for suite in Suite:
+            key, buffer = Key(suite, KEY[: suite.key_bytes]), bytearray(TEXT)
+            with interrupted("aeadkit_seal_in_place_with"):
+                self.assertRaises((First, Second), key.seal_in_place, NONCE, buffer)
+            self.assertEqual(buffer, TEXT)
+            buffer += b"nothing holds it"
+
+        def siv():
+            begun = SivSealer(Suite.AES_256_GCM_SIV, KEY, NONCE)
+            begun.absorb(TEXT)
+            begun.begin_second()
+            return begun
+
+        for begin, name, function in [(lambda: Sealer(Suite.AES_256_GCM, KEY, NONCE), "update", "aeadkit_sealer_update"),
+                                      (lambda: Sealer(Suite.AES_256_GCM, KEY, NONCE), "update_in_place", "aeadkit_sealer_update"),
+                                      (lambda: Opener(Suite.AES_256_GCM, KEY, NONCE, bytes(16)), "check", "aeadkit_opener_check"),
+                                      (siv, "update", "aeadkit_siv_update"), (siv, "update_in_place", "aeadkit_siv_update")]:
+            state, piece = begin(), bytearray(b"a piece")
+            with interrupted(function):
+                self.assertRaises((First, Second), getattr(state, name), piece)
+            self.assertRaisesRegex(aeadkit.NotBegun, "closed", getattr(state, name), piece)
+            piece += b"nothing holds it"
 
     def test_an_exception_at_each_line(self):
         """Like one from a signal handler. A sealing in place is undone. An object in pieces is closed, or goes on as without the call."""

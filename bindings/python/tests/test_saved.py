@@ -340,6 +340,18 @@ class Example(unittest.TestCase):
             self.assertRaises(ValueError, self.example.seal_file, KEY, str(self.source), str(target))
             self.assertEqual(self.source.read_bytes(), TEXT)
 
+    def test_the_key_as_output(self):
+        """The key would be lost, and nothing that it sealed could be opened."""
+        self.source.write_bytes(TEXT)
+        key, other = self.folder / "key", self.folder / "other"
+        key.write_bytes(KEY)
+        os.link(str(key), str(other))
+        for target in (key, other):
+            made = subprocess.run([sys.executable, "-B", self.example.__file__, str(key), str(self.source), str(target)],
+                                  stdout=subprocess.PIPE, stderr=subprocess.PIPE)
+            self.assertEqual((made.returncode, key.read_bytes()), (1, KEY))
+            self.assertIn(b"KEYFILE and OUT are one file", made.stderr)
+
     def test_an_output_that_changes(self):
         """If OUT was removed, cut or made longer, it would not be a sealing in the end, and its text may be gone by then."""
         self.source.write_bytes(TEXT)
