@@ -1,5 +1,5 @@
 use Rattle.std.proofs.Common.{◌≡◌, ℕ, ◌*◌, ◌/◌, List, [], ◌++◌, length, take, ap, sym, subst}
-use Rattle.octets.specs.Ends.{whole_blocks, hashed_of}
+use Rattle.octets.specs.Ends.{whole_blocks}
 use Rattle.octets.proofs.work.Stream.apply_beside.Goals as goal
 
 pub returns-in-MaskFirst-clause-hashed : goal.returns-in-MaskFirst-clause-hashed
