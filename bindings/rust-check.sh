@@ -124,24 +124,31 @@ fn main() {
     println!("{:?}", aeadkit::seal_to_vec(aeadkit::Suite::Aes128Gcm, &[0; 16], &[0; 12], b"a text", aeadkit::Aad::empty()));
 }
 RUST
+# Wants the crate not to be linked: not_linked VARIABLE=VALUE WORD of the refusal
 not_linked() {
-    ! (cd "$room/other" && AEADKIT_PREFIX="$room/$1" cargo build --quiet --offline) > "$room/log" 2>&1 \
+    ! (cd "$room/other" && env "$1" cargo build --quiet --offline) > "$room/log" 2>&1 \
         || { echo "the crate is linked with a library of another version" >&2; exit 1; }
     grep -q "$2" "$room/log" || { cat "$room/log" >&2; exit 1; }
 }
 mkdir -p "$room/older/lib" "$room/newer"
 cp -R "$prefix/lib" "$room/newer/"
 sed -i 's/^Version: .*/Version: 4.1.2/' "$room/newer/lib/pkgconfig/aeadkit.pc"
-not_linked newer "has version 4.1.2, and this crate"
+not_linked AEADKIT_PREFIX="$room/newer" "has version 4.1.2, and this crate"
 echo 'int aeadkit_seal(void) { return 0; } int aeadkit_open(void) { return 0; }' > "$room/older.c"
 cc -c "$room/older.c" -o "$room/older.o"
 ar rc "$room/older/lib/libaeadkit.a" "$room/older.o"
-not_linked older AEADKIT_3
+not_linked AEADKIT_PREFIX="$room/older" AEADKIT_3
 mkdir -p "$room/newest/lib"
 objcopy --redefine-sym AEADKIT_3=AEADKIT_4 "$prefix/lib/libaeadkit.a" "$room/newest/lib/libaeadkit.a"
-not_linked newest AEADKIT_3
+not_linked AEADKIT_PREFIX="$room/newest" AEADKIT_3
 mv "$room/newer/lib/pkgconfig/aeadkit.pc" "$room/older/"
 (export AEADKIT_PREFIX="$room/newer" && in_crate other run)
+# The same after a build: a link that leads to another library now.
+ln -s newer "$room/current"
+(export AEADKIT_PREFIX="$room/current" && in_crate other run)
+ln -sfn newest "$room/current"
+touch "$room/newest/lib/libaeadkit.a"
+not_linked AEADKIT_PREFIX="$room/current" AEADKIT_3
 
 # A program for another processor or calling convention.
 rustc --edition 2024 -D warnings "$prefix/share/aeadkit/rust/build.rs" -o "$room/build"

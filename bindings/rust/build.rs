@@ -3,6 +3,9 @@
 //! folder `x86-64-v3` there, if it has one. An archive of another major version is refused: its calls have the same names and may
 //! take other arguments, which no linker notices. Where no file for pkg-config names the version, the linker does not find the name
 //! `AEADKIT_3` in such an archive.
+//!
+//! Cargo runs this again if another of the variables is set, or if the archive is newer than its last run. An archive that is older,
+//! as after a link was turned back to an earlier library, is taken after `cargo clean -p aeadkit`.
 
 use std::path::{Path, PathBuf};
 use std::process::Command;
@@ -56,11 +59,15 @@ fn main() {
         println!("cargo::error=libaeadkit.a is for x86-64 with the calling convention of System V, and not for {target}");
         return;
     }
-    let lib = env::var_os("AEADKIT_PREFIX")
+    let named = env::var_os("AEADKIT_PREFIX")
         .map(|prefix| Path::new(&prefix).join("lib"))
         .or_else(from_layout)
-        .or_else(from_pkg_config)
-        .and_then(|lib| fs::canonicalize(lib).ok());
+        .or_else(from_pkg_config);
+    if let Some(named) = &named {
+        // by its name too, whose links may lead to another library later
+        println!("cargo::rerun-if-changed={}", named.join("libaeadkit.a").display());
+    }
+    let lib = named.and_then(|lib| fs::canonicalize(lib).ok());
     if let Some((lib, version)) = lib.as_ref().and_then(|lib| Some((lib, other_version(lib)?))) {
         let own = env::var("CARGO_PKG_VERSION").unwrap_or_default();
         println!("cargo::error=the library in {} has version {version}, and this crate {own}", lib.display());
