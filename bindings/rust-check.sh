@@ -143,12 +143,17 @@ objcopy --redefine-sym AEADKIT_3=AEADKIT_4 "$prefix/lib/libaeadkit.a" "$room/new
 not_linked AEADKIT_PREFIX="$room/newest" AEADKIT_3
 mv "$room/newer/lib/pkgconfig/aeadkit.pc" "$room/older/"
 (export AEADKIT_PREFIX="$room/newer" && in_crate other run)
-# The same after a build: a link that leads to another library now.
+# The same after a build: a link that leads to another library now, and another folder that pkg-config finds.
 ln -s newer "$room/current"
 (export AEADKIT_PREFIX="$room/current" && in_crate other run)
 ln -sfn newest "$room/current"
 touch "$room/newest/lib/libaeadkit.a"
 not_linked AEADKIT_PREFIX="$room/current" AEADKIT_3
+sed -i "s|$prefix/share/aeadkit/rust|$room/aeadkit|" "$room/other/Cargo.toml"
+printf '#!/bin/sh\necho "$PKG_CONFIG_LIBDIR"\n' > "$room/pkg-config"
+chmod +x "$room/pkg-config"
+(export PKG_CONFIG="$room/pkg-config" PKG_CONFIG_LIBDIR="$room/newer/lib" && in_crate other run)
+(export PKG_CONFIG="$room/pkg-config" && not_linked PKG_CONFIG_LIBDIR="$room/newest/lib" AEADKIT_3)
 
 # A program for another processor or calling convention.
 rustc --edition 2024 -D warnings "$prefix/share/aeadkit/rust/build.rs" -o "$room/build"

@@ -51,7 +51,7 @@ fn other_version(lib: &Path) -> Option<String> {
 }
 
 fn main() {
-    for name in ["AEADKIT_PREFIX", "PKG_CONFIG", "PKG_CONFIG_PATH"] {
+    for name in ["AEADKIT_PREFIX", "PKG_CONFIG", "PKG_CONFIG_PATH", "PKG_CONFIG_LIBDIR", "PKG_CONFIG_SYSROOT_DIR"] {
         println!("cargo::rerun-if-env-changed={name}");
     }
     if !is_for_the_archive() {
