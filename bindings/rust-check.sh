@@ -155,15 +155,16 @@ chmod +x "$room/pkg-config"
 (export PKG_CONFIG="$room/pkg-config" PKG_CONFIG_LIBDIR="$room/newer/lib" && in_crate other run)
 (export PKG_CONFIG="$room/pkg-config" && not_linked PKG_CONFIG_LIBDIR="$room/newest/lib" AEADKIT_3)
 
-# A program for another processor or calling convention.
+# A program for another processor or calling convention, or for a kernel, whose interrupts change what the archive computes.
 rustc --edition 2024 -D warnings "$prefix/share/aeadkit/rust/build.rs" -o "$room/build"
 built_for() {
-    CARGO_CFG_TARGET_ARCH=$1 CARGO_CFG_TARGET_POINTER_WIDTH=$2 CARGO_CFG_TARGET_OS=$3 CARGO_MANIFEST_DIR=/ AEADKIT_PREFIX=$prefix \
-        CARGO_PKG_VERSION_MAJOR=3 "$room/build" > "$room/log"
+    CARGO_CFG_TARGET_ARCH=$1 CARGO_CFG_TARGET_POINTER_WIDTH=$2 CARGO_CFG_TARGET_OS=$3 CARGO_CFG_TARGET_FEATURE=$4 \
+        CARGO_MANIFEST_DIR=/ AEADKIT_PREFIX=$prefix CARGO_PKG_VERSION_MAJOR=3 "$room/build" > "$room/log"
     ! grep '^cargo::error=' "$room/log"
 }
-built_for x86_64 64 linux
-for target in "aarch64 64 linux" "x86_64 32 linux" "x86_64 64 windows"; do
+built_for x86_64 64 linux fxsr,sse,sse2
+for target in "aarch64 64 linux neon" "x86_64 32 linux fxsr,sse,sse2" "x86_64 64 windows fxsr,sse,sse2" \
+    "x86_64 64 cygwin fxsr,sse,sse2" "x86_64 64 none fxsr"; do
     ! built_for $target > "$room/other.log" || { echo "the archive is linked for $target" >&2; exit 1; }
 done
 

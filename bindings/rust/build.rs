@@ -4,8 +4,8 @@
 //! take other arguments, which no linker notices. Where no file for pkg-config names the version, the linker does not find the name
 //! `AEADKIT_3` in such an archive.
 //!
-//! Cargo runs this again if another of the variables is set, or if the archive is newer than its last run. An archive that is older,
-//! as after a link was turned back to an earlier library, is taken after `cargo clean -p aeadkit`.
+//! Cargo runs this again if one of the variables is changed, or if the archive is newer than its last run. An archive that is
+//! older, as after a link was turned back to an earlier library, is taken after `cargo clean -p aeadkit`.
 
 use std::path::{Path, PathBuf};
 use std::process::Command;
@@ -29,16 +29,24 @@ fn from_layout() -> Option<PathBuf> {
     lib.join("libaeadkit.a").exists().then_some(lib)
 }
 
+/// Whether the program is compiled for processors that have a feature.
+fn has(wanted: &str) -> bool {
+    let features = env::var("CARGO_CFG_TARGET_FEATURE").unwrap_or_default();
+    features.split(',').any(|feature| feature == wanted)
+}
+
 /// Whether the program is compiled for processors that have all features that the archive for AVX2 needs.
 fn is_fast() -> bool {
-    let features = env::var("CARGO_CFG_TARGET_FEATURE").unwrap_or_default();
-    FAST.iter().all(|wanted| features.split(',').any(|feature| feature == *wanted))
+    FAST.into_iter().all(has)
 }
 
 /// Whether the program has the archive's processor and calling convention. Not every linker refuses an archive of another one.
+/// A program without SSE2 is one of a kernel, as for `x86_64-unknown-none`: its interrupts may change the registers of SSE2 and the
+/// 128 bytes below the stack pointer, in which the archive computes.
 fn is_for_the_archive() -> bool {
     let of_target = |name: &str| env::var(format!("CARGO_CFG_TARGET_{name}")).unwrap_or_default();
-    of_target("ARCH") == "x86_64" && of_target("POINTER_WIDTH") == "64" && !["windows", "uefi"].contains(&&*of_target("OS"))
+    let others = ["windows", "uefi", "cygwin"];
+    of_target("ARCH") == "x86_64" && of_target("POINTER_WIDTH") == "64" && !others.contains(&&*of_target("OS")) && has("sse2")
 }
 
 /// The version of the library in a folder, if pkg-config's file there names one of another major version than this crate has.
@@ -56,7 +64,7 @@ fn main() {
     }
     if !is_for_the_archive() {
         let target = env::var("TARGET").unwrap_or_default();
-        println!("cargo::error=libaeadkit.a is for x86-64 with the calling convention of System V, and not for {target}");
+        println!("cargo::error=libaeadkit.a is for x86-64 with SSE2 and the System V calling convention, and not for {target}");
         return;
     }
     let named = env::var_os("AEADKIT_PREFIX")

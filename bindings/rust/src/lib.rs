@@ -41,8 +41,9 @@
 //! was moved from are not.
 //!
 //! The crate is `no_std`. Without its default feature `alloc` it has no calls that return vectors. The library calls
-//! `memcpy`, `memmove`, `memset` and `bcmp`, which the C library has. If the program is compiled for processors with AVX2, as
-//! with `RUSTFLAGS="-C target-cpu=x86-64-v3"`, the library's build for these is linked.
+//! `memcpy`, `memmove`, `memset` and `bcmp`, which the C library has. It does not serve a kernel: `x86_64-unknown-none` and other
+//! targets without SSE2 are refused. If the program is compiled for processors with AVX2, as with
+//! `RUSTFLAGS="-C target-cpu=x86-64-v3"`, the library's build for these is linked.
 
 #![no_std]
 #![deny(unsafe_code)]
