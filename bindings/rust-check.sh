@@ -141,6 +141,20 @@ not_linked AEADKIT_PREFIX="$room/older" AEADKIT_3
 mkdir -p "$room/newest/lib"
 objcopy --redefine-sym AEADKIT_3=AEADKIT_4 "$prefix/lib/libaeadkit.a" "$room/newest/lib/libaeadkit.a"
 not_linked AEADKIT_PREFIX="$room/newest" AEADKIT_3
+# Nor into a shared object, which linkers make without the names that they do not find; and a linker alone refuses the archive.
+user plugin
+printf '\n[lib]\ncrate-type = ["cdylib"]\n' >> "$room/plugin/Cargo.toml"
+echo '#[unsafe(no_mangle)] pub extern "C" fn keyed() -> bool { aeadkit::Key::new(aeadkit::Suite::Aes128Gcm, &[0; 16]).is_ok() }' \
+    > "$room/plugin/src/lib.rs"
+in_crate plugin build
+! (cd "$room/plugin" && AEADKIT_PREFIX="$room/newest" cargo build --quiet --offline) > "$room/log" 2>&1 \
+    || { echo "a shared object is linked with a library of another version" >&2; exit 1; }
+grep -q AEADKIT_3 "$room/log" || { cat "$room/log" >&2; exit 1; }
+rustc --edition 2024 -O --crate-type rlib --crate-name aeadkit --cfg 'feature="alloc"' -L "$room/newest/lib" -l static=aeadkit \
+    "$prefix/share/aeadkit/rust/src/lib.rs" -o "$room/newest/libaeadkit.rlib"
+! rustc --edition 2024 --extern aeadkit="$room/newest/libaeadkit.rlib" "$room/other/src/main.rs" -o "$room/newest/other" \
+    > "$room/log" 2>&1 || { echo "a linker takes a library of another version" >&2; exit 1; }
+grep -q AEADKIT_3 "$room/log" || { cat "$room/log" >&2; exit 1; }
 mv "$room/newer/lib/pkgconfig/aeadkit.pc" "$room/older/"
 (export AEADKIT_PREFIX="$room/newer" && in_crate other run)
 # The same after a build: a link that leads to another library now, and another folder that pkg-config finds.

@@ -1,8 +1,8 @@
 //! Finds libaeadkit.a: in the folder `lib` of the prefix that AEADKIT_PREFIX names; else in the prefix that this crate was
 //! laid out in; else where pkg-config says. If the program is compiled for processors with AVX2, the archive comes from the
 //! folder `x86-64-v3` there, if it has one. An archive of another major version is refused: its calls have the same names and may
-//! take other arguments, which no linker notices. Where no file for pkg-config names the version, the linker does not find the name
-//! `AEADKIT_3` in such an archive.
+//! take other arguments, which no linker notices. Where no file for pkg-config names the version, such an archive lacks the name
+//! `AEADKIT_3`. Without this crate's build a linker misses it too, except for a shared object, which it links nevertheless.
 //!
 //! Cargo runs this again if one of the variables is changed, or if the archive is newer than its last run. An archive that is
 //! older, as after a link was turned back to an earlier library, is taken after `cargo clean -p aeadkit`.
@@ -58,6 +58,12 @@ fn other_version(lib: &Path) -> Option<String> {
     (major != "0" && version.split('.').next() != Some(&major)).then(|| version.into())
 }
 
+/// Whether the archive in a folder lacks the name that those of this major version have.
+fn lacks_name(lib: &Path) -> bool {
+    let name = b"AEADKIT_3\0";
+    fs::read(lib.join("libaeadkit.a")).is_ok_and(|bytes| !bytes.windows(name.len()).any(|part| part == name))
+}
+
 fn main() {
     for name in ["AEADKIT_PREFIX", "PKG_CONFIG", "PKG_CONFIG_PATH", "PKG_CONFIG_LIBDIR", "PKG_CONFIG_SYSROOT_DIR"] {
         println!("cargo::rerun-if-env-changed={name}");
@@ -83,6 +89,9 @@ fn main() {
     }
     let fast = lib.as_ref().map(|lib| lib.join("x86-64-v3")).filter(|fast| fast.join("libaeadkit.a").exists());
     match fast.filter(|_| is_fast()).or(lib) {
+        Some(lib) if lacks_name(&lib) => {
+            println!("cargo::error=libaeadkit.a in {} lacks AEADKIT_3, so it is of another major version", lib.display());
+        }
         Some(lib) => {
             println!("cargo::rerun-if-changed={}", lib.join("libaeadkit.a").display());
             println!("cargo::rustc-link-search=native={}", lib.display());
