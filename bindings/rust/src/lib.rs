@@ -40,6 +40,9 @@
 //! and the states in pieces are wiped when they are dropped. The caller's slices, the stack, and the places that a key or a state
 //! was moved from are not.
 //!
+//! A call takes up to 24 KiB of stack in the library, however long the text is. A thread or a coroutine with less overflows its
+//! stack.
+//!
 //! The crate is `no_std`. Without its default feature `alloc` it has no calls that return vectors. The library calls
 //! `memcpy`, `memmove`, `memset` and `bcmp`, which the C library has. It does not serve a kernel: `x86_64-unknown-none` and other
 //! targets without SSE2 are refused. If the program is compiled for processors with AVX2, as with
