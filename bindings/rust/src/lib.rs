@@ -30,7 +30,8 @@
 //! All calls take their arguments in one order: suite, key, nonce, the bytes that are sealed or opened, the bytes that the result
 //! goes to, a tag that is given, and the associated data last, as an [`Aad`]. Associated data is authenticated and not encrypted,
 //! like the header of a message: a message opens only with the associated data that it was sealed with. A key that wraps others is
-//! a [`WrappingKey`]. So a call that exchanges a text with its associated data, or two keys, does not compile.
+//! a [`WrappingKey`]. So a call that exchanges a text with its associated data, or the two keys of a wrapping, does not compile. A
+//! call that seals one key under the bytes of another compiles with the two exchanged, and under a [`Key`] it does not.
 //!
 //! Never use a nonce twice under one key: see [`seal`]. After a fault each buffer is as before, with two exceptions: if
 //! [`open`], [`unwrap`] or [`unwrap_padded`] fails to authenticate, its output is all zeros; and a second pass or reading in
