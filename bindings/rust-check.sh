@@ -30,6 +30,7 @@ if ! cargo --version > "$room/log" 2>&1; then
     exit 0
 fi
 
+unset AEADKIT_PREFIX # another library would be checked in the place of that of PREFIX
 export CARGO_TARGET_DIR="$room/target" RUSTFLAGS="-D warnings" RUSTDOCFLAGS="-D warnings"
 # Makes a crate that uses it: user NAME [FEATURES]
 user() {
