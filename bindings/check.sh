@@ -11,6 +11,8 @@ if [ $# != 1 ]; then
 It prints a line for each language, 'ok: ..', or 'left out: ..' if its compiler or interpreter is not there." >&2
     exit 2
 fi
+# What is checked is the library of PREFIX, whatever library or package the caller's environment names.
+unset AEADKIT PYTHONPATH
 prefix=$(cd "$1" && pwd)
 out=$prefix/lib
 include=-I$prefix/include
