@@ -169,12 +169,13 @@ function grow(memory, pages) {
 const aligned = (place) => 8 * Math.ceil(place / 8);
 
 // How a call takes bytes: by their address, and by their length unless the call knows it. If `from` is given, the call reads its
-// bytes. If `to` is given, it gets the bytes that the call leaves. A Uint8Array by itself is an input.
-const input = (from) => ({ from, hasLength: true });
-const output = (to) => ({ to, hasLength: true });
+// bytes. If `to` is given, it gets the bytes that the call leaves. A Uint8Array by itself is an input. Each has its own `from` and
+// `to`, whatever a program adds to Object.prototype.
+const input = (from) => ({ from, to: undefined, hasLength: true });
+const output = (to) => ({ from: undefined, to, hasLength: true });
 const inPlace = (from, to = from) => ({ from, to, hasLength: true });
-const constant = (from) => ({ from, hasLength: false });
-const result = (to) => ({ to, hasLength: false });
+const constant = (from) => ({ from, to: undefined, hasLength: false });
+const result = (to) => ({ from: undefined, to, hasLength: false });
 const struct = (bytes) => ({ from: bytes, to: bytes, hasLength: false });
 
 // The major version of the modules that are called here. The calls of another version have the same names and may take other

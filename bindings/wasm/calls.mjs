@@ -422,6 +422,27 @@ const options = {
 };
 assert.deepEqual(kept.seal(nonce, text, options), kept.seal(nonce, text, { aad: options.aad }));
 
+// What another part of the program adds to Object.prototype changes no result, as a tag that is zeros.
+for (const name of ["from", "to", "hasLength"]) {
+    for (const value of [[], new Uint8Array(3), "abc", 5]) {
+        Object.defineProperty(Object.prototype, name, { value, configurable: true, writable: true });
+        try {
+            const changed = text.slice();
+            const itsTag = kept.sealInPlace(nonce, changed, { aad });
+            assert.equal(Buffer.compare(Buffer.concat([changed, itsTag]), sealed), 0);
+            const sealer = kept.sealer(nonce, { aad });
+            const head = sealer.update(text.subarray(0, 20));
+            const resumed = Sealer.resume(aead, suite, key, nonce, sealer.save());
+            const parts = [head, resumed.update(text.subarray(20)), resumed.finish()];
+            assert.equal(Buffer.compare(Buffer.concat(parts), sealed), 0);
+            assert.equal(Buffer.compare(kept.open(nonce, kept.seal(nonce, text)), text), 0);
+            assert.equal(Buffer.compare(keywrap.unwrapPadded(key, keywrap.wrapPadded(key, nonce)), nonce), 0);
+        } finally {
+            delete Object.prototype[name];
+        }
+    }
+}
+
 // A call that the host cuts off, since its stack is full, changes nothing, and the calls after it give the right results.
 const atTheEndOfTheStack = (call) => {
     let cut = 0;
