@@ -516,7 +516,8 @@ export class Sealer {
     /** Ends the sealing here, and returns the bytes that `resume` takes. Never resume from them twice. */
     save() {
         const saved = this.#struct.made(SAVED_SEALER_BYTES, "aeadkit_sealer_save");
-        this.wipe();
+        // not `this.wipe()`, which a subclass may replace
+        this.#struct.call("aeadkit_sealer_wipe");
         return saved;
     }
 
@@ -637,7 +638,8 @@ export class SivSealer {
     /** Ends the sealing here, and returns the bytes that `resume` takes. Never resume from them twice. */
     save() {
         const saved = this.#struct.made(SAVED_PASSES_BYTES, "aeadkit_siv_save");
-        this.wipe();
+        // not `this.wipe()`, which a subclass may replace
+        this.#struct.call("aeadkit_siv_wipe");
         return saved;
     }
 
