@@ -50,7 +50,10 @@ export class NotBegun extends Refused { readonly fault: "NotBegun"; }
 /** The bytes are not a saved state of this class, suite, key and nonce, in the layout of this module. */
 export class NotSaved extends Refused { readonly fault: "NotSaved"; }
 
-/** The options of a call: a plain object, its last argument. A call throws a `TypeError` if it has a key of another name. */
+/**
+ * The options of a call: a plain object, its last argument. A call throws a `TypeError` if it has a key of another name, or an
+ * `aad` that is not its own, as a Proxy may.
+ */
 export interface Options {
     /** The associated data, which is authenticated and not encrypted, like the header of a message. Left out, it is empty. */
     aad?: Uint8Array | undefined;

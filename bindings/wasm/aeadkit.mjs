@@ -127,13 +127,16 @@ function wantBytes(...arrays) {
 
 // Returns the associated data that options name, which is empty if they name none. Throws if they are not a plain object, as in
 // a call of version 2.0, whose last argument was a Uint8Array, or if they have a key of another name, or if it is not a
-// Uint8Array.
+// Uint8Array. Throws too if they have associated data that is not their own, as a Proxy may: it would be left out.
 function aadOf(options) {
     if (options === null || ![Object.prototype, null].includes(Object.getPrototypeOf(options))
         || Reflect.ownKeys(options).some((name) => name !== "aad")) {
         throw new TypeError("associated data is given by name: { aad }");
     }
-    const aad = Object.hasOwn(options, "aad") ? options.aad : undefined;
+    const { aad } = options;
+    if (aad !== undefined && !Object.hasOwn(options, "aad")) {
+        throw new TypeError("associated data is given by name: { aad }");
+    }
     return aad === undefined ? new Uint8Array(0) : wantBytes(aad)[0];
 }
 

@@ -162,6 +162,8 @@ for (const other of [
     new DataView(new ArrayBuffer(16)), [], [aad], "", "aad", 0, 16, 1n, true, false, null, Symbol("aad"), () => aad,
     new Map([["aad", aad]]), new (class { aad = aad; })(), Object.create({ aad }), { add: aad }, { AAD: aad }, { aad, add: aad },
     { aad, tag: undefined }, { [Symbol("aad")]: aad }, Object.defineProperty({}, "add", { value: aad }),
+    // their aad is not their own, and would be left out
+    new Proxy({}, { get: () => aad }), new Proxy({}, { get: () => aad, ownKeys: () => ["aad"] }),
 ]) {
     for (const call of named) {
         assert.throws(() => call(other), byName);
@@ -169,6 +171,7 @@ for (const other of [
 }
 named.forEach((call) => call({ aad }));
 named.forEach((call) => call({ __proto__: null, aad }));
+assert.deepEqual(kept.seal(nonce, text, new Proxy({ aad }, {})), sealed);
 
 // A call in the order of version 2.0, whose associated data stood before the text or the tag, throws that TypeError.
 for (const call of [
