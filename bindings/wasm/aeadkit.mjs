@@ -149,6 +149,14 @@ function wantTag(tag) {
     return bytes;
 }
 
+// Throws if a call is given bytes or associated data after its last argument, such as a last piece for `finish`: they would be left
+// out. Anything else is let through, since `map` gives the index of a piece to `update`, and a stream its controller to `check`.
+function wantNoMore(more) {
+    if (ArrayBuffer.isView(more) || more?.aad !== undefined) {
+        throw new TypeError("an argument too many: the call takes no more bytes, and no associated data");
+    }
+}
+
 // Throws if a suite is not a number, which a module would read as one.
 function wantNumber(suite) {
     if (!Number.isInteger(suite) || suite < 0 || suite >= 2 ** 32) {
@@ -413,8 +421,9 @@ export class Key {
     #struct;
     #suite;
 
-    constructor(aead, suite, key) {
+    constructor(aead, suite, key, more) {
         this.#module = moduleOf(aead);
+        wantNoMore(more);
         [key] = wantBytes(key);
         wantNumber(suite);
         this.#suite = suite;
@@ -506,13 +515,15 @@ export class Sealer {
     }
 
     /** Returns the ciphertext of the next piece of the text, of any length. */
-    update(piece) {
+    update(piece, more) {
+        wantNoMore(more);
         [piece] = wantBytes(piece);
         return this.#struct.changed("aeadkit_sealer_update", piece);
     }
 
     /** Ends the sealing, and returns the tag of 16 bytes. */
-    finish() {
+    finish(more) {
+        wantNoMore(more);
         return this.#struct.made(TAG_BYTES, "aeadkit_sealer_finish");
     }
 
@@ -558,24 +569,28 @@ export class Opener {
     }
 
     /** Takes the next piece of the ciphertext in the first pass. */
-    check(piece) {
+    check(piece, more) {
+        wantNoMore(more);
         [piece] = wantBytes(piece);
         this.#struct.call("aeadkit_opener_check", piece);
     }
 
     /** Ends the first pass and begins the second. Throws `TagMismatch` if authentication failed, which ends the opening. */
-    beginSecond() {
+    beginSecond(more) {
+        wantNoMore(more);
         this.#struct.call("aeadkit_opener_begin_second");
     }
 
     /** Returns the text of the next piece of the ciphertext in the second pass. */
-    update(piece) {
+    update(piece, more) {
+        wantNoMore(more);
         [piece] = wantBytes(piece);
         return this.#struct.changed("aeadkit_opener_update", piece);
     }
 
     /** Ends the second pass. After `SourceChanged`, if its authentication failed, throw away what `update` returned. */
-    finish() {
+    finish(more) {
+        wantNoMore(more);
         this.#struct.call("aeadkit_opener_finish");
     }
 
@@ -617,24 +632,28 @@ export class SivSealer {
     }
 
     /** Takes the next piece of the text in the first reading. */
-    absorb(piece) {
+    absorb(piece, more) {
+        wantNoMore(more);
         [piece] = wantBytes(piece);
         this.#struct.call("aeadkit_siv_absorb", piece);
     }
 
     /** Ends the first reading and begins the second. Returns the tag of 16 bytes. */
-    beginSecond() {
+    beginSecond(more) {
+        wantNoMore(more);
         return this.#struct.made(TAG_BYTES, "aeadkit_siv_begin_second");
     }
 
     /** Returns the ciphertext of the next piece of the text in the second reading. */
-    update(piece) {
+    update(piece, more) {
+        wantNoMore(more);
         [piece] = wantBytes(piece);
         return this.#struct.changed("aeadkit_siv_update", piece);
     }
 
     /** Ends the second reading. After `SourceChanged`, if it read another text, throw away what `update` returned. */
-    finish() {
+    finish(more) {
+        wantNoMore(more);
         this.#struct.call("aeadkit_siv_finish");
     }
 

@@ -211,6 +211,41 @@ assert.throws(() => aead.seal(suite, key, nonce), TypeError);
 assert.throws(() => new Opener(aead, suite, key, nonce, none), aeadkit.TagLength);
 assert.deepEqual(kept.seal(Buffer.from(nonce), Buffer.from(text), { aad: Buffer.from(aad) }), sealed);
 
+// Bytes or associated data after the last argument are refused, and the state goes on: they would be missing in the sealing. The
+// index that `map` gives, and the controller of a stream, are let through.
+const [first, rest] = [text.subarray(0, 20), text.subarray(20)];
+const [body, itsTag] = [sealed.subarray(0, -16), sealed.subarray(-16)];
+const sealing = kept.sealer(nonce, { aad });
+const opening = kept.opener(nonce, itsTag, { aad });
+const reading = new SivSealer(aead, siv, key, nonce, { aad });
+const extra = (call) => {
+    for (const more of [rest, none, Buffer.from(rest), { aad }]) {
+        assert.throws(() => call(more), { name: "TypeError", message: /^an argument too many/ });
+    }
+};
+extra((more) => new Key(aead, suite, key, more));
+extra((more) => sealing.update(first, more));
+const pieces = [first, rest].map(sealing.update, sealing);
+extra((more) => sealing.finish(more));
+assert.deepEqual(Buffer.concat([...pieces, sealing.finish()]), Buffer.from(sealed));
+extra((more) => opening.check(body, more));
+await new Blob([body]).stream().pipeTo(new WritableStream({ write: opening.check.bind(opening) }));
+extra((more) => opening.beginSecond(more));
+opening.beginSecond();
+extra((more) => opening.update(body, more));
+assert.deepEqual(opening.update(body), text);
+extra((more) => opening.finish(more));
+opening.finish();
+extra((more) => reading.absorb(first, more));
+[first, rest].forEach(reading.absorb, reading);
+extra((more) => reading.beginSecond(more));
+const sivTag = reading.beginSecond();
+extra((more) => reading.update(first, more));
+const sivPieces = [first, rest].map(reading.update, reading);
+extra((more) => reading.finish(more));
+reading.finish();
+assert.deepEqual(Buffer.concat([...sivPieces, sivTag]), Buffer.from(aead.seal(siv, key, nonce, text, { aad })));
+
 // Each result is a new array, and no argument changes.
 const before = [key, nonce, tag, text].map((array) => array.slice());
 const results = [
