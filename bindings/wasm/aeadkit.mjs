@@ -685,25 +685,29 @@ export class KeyWrap {
     }
 
     /** Returns the wrapping of a text, which is 8 bytes longer. */
-    wrap(key, text) {
+    wrap(key, text, more) {
+        wantNoMore(more);
         [key, text] = wantBytes(key, text);
         return this.#module.made(text.length + WRAP_BYTES, "aeadkit_wrap", key, text);
     }
 
     /** Returns the text of what `wrap` made. */
-    unwrap(key, wrapped) {
+    unwrap(key, wrapped, more) {
+        wantNoMore(more);
         [key, wrapped] = wantBytes(key, wrapped);
         return this.#module.made(Math.max(0, wrapped.length - WRAP_BYTES), "aeadkit_unwrap", key, wrapped);
     }
 
     /** Returns the wrapping with padding of a text of 1 to 2^32 - 1 bytes. */
-    wrapPadded(key, text) {
+    wrapPadded(key, text, more) {
+        wantNoMore(more);
         [key, text] = wantBytes(key, text);
         return this.#module.made(aligned(text.length) + WRAP_BYTES, "aeadkit_wrap_padded", key, text);
     }
 
     /** Returns the text of what `wrapPadded` made. */
-    unwrapPadded(key, wrapped) {
+    unwrapPadded(key, wrapped, more) {
+        wantNoMore(more);
         [key, wrapped] = wantBytes(key, wrapped);
         const text = new Uint8Array(Math.max(0, wrapped.length - WRAP_BYTES));
         const length = new Uint8Array(8);

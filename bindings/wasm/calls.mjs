@@ -211,8 +211,8 @@ assert.throws(() => aead.seal(suite, key, nonce), TypeError);
 assert.throws(() => new Opener(aead, suite, key, nonce, none), aeadkit.TagLength);
 assert.deepEqual(kept.seal(Buffer.from(nonce), Buffer.from(text), { aad: Buffer.from(aad) }), sealed);
 
-// Bytes or associated data after the last argument are refused, and the state goes on: they would be missing in the sealing. The
-// index that `map` gives, and the controller of a stream, are let through.
+// Bytes or associated data after the last argument are refused, and the state goes on: they would be missing in the sealing, and
+// no wrapping has associated data. The index that `map` gives, and the controller of a stream, are let through.
 const [first, rest] = [text.subarray(0, 20), text.subarray(20)];
 const [body, itsTag] = [sealed.subarray(0, -16), sealed.subarray(-16)];
 const sealing = kept.sealer(nonce, { aad });
@@ -224,6 +224,10 @@ const extra = (call) => {
     }
 };
 extra((more) => new Key(aead, suite, key, more));
+extra((more) => keywrap.wrap(key, key, more));
+extra((more) => keywrap.unwrap(key, keywrap.wrap(key, key), more));
+extra((more) => keywrap.wrapPadded(key, nonce, more));
+extra((more) => keywrap.unwrapPadded(key, keywrap.wrapPadded(key, nonce), more));
 extra((more) => sealing.update(first, more));
 const pieces = [first, rest].map(sealing.update, sealing);
 extra((more) => sealing.finish(more));
