@@ -66,6 +66,11 @@ export interface Options {
  * A call that throws has changed none of its arguments. Each result is a new array, and only the calls named InPlace change an
  * argument.
  *
+ * All bytes of a call have to fit in the memory of its module, for `seal` and `open` the text and the result. If they do not, the
+ * call throws a `RangeError`, and a state in pieces goes on as it was. In Node 20 a memory ends at 4 GiB: `seal` takes texts of
+ * almost 2 GiB, and longer ones are sealed in pieces. A memory does not become smaller again: after a long text an `Aead` holds
+ * as much as that needed.
+ *
  * Here and in the classes below, a call throws a `TypeError`, before the faults that it names, if an argument is not a Uint8Array
  * where one is required, or if its options are not a plain object. So does a call on a state in pieces or of a `KeyWrap`, and the
  * constructor of `Key`, if bytes or associated data stand after the last argument, such as a last piece for `finish`. In version
