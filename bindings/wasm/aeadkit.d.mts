@@ -72,9 +72,9 @@ export interface Options {
  * as much as that needed.
  *
  * Here and in the classes below, a call throws a `TypeError`, before the faults that it names, if an argument is not a Uint8Array
- * where one is required, or if its options are not a plain object. So does a call on a state in pieces or of a `KeyWrap`, and the
- * constructor of `Key`, if bytes or associated data stand after the last argument, such as a last piece for `finish`. In version
- * 2.0 the associated data stood before the text or the tag, as a Uint8Array: such a call throws a `TypeError`.
+ * where one is required, or if its options are not a plain object. So does each call that takes or returns bytes if more bytes or
+ * associated data stand after its last argument, such as a last piece for `finish`. In version 2.0 the associated data stood
+ * before the text or the tag, as a Uint8Array: such a call throws a `TypeError`.
  */
 export class Aead {
     constructor(bytes: ArrayBuffer | ArrayBufferView);

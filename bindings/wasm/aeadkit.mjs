@@ -125,10 +125,20 @@ function wantBytes(...arrays) {
     });
 }
 
+// Throws if a call is given bytes or associated data after its last argument, such as a last piece for `finish`: they would be left
+// out. Anything else is let through, since `map` gives the index of a piece to `update`, and a stream its controller to `check`.
+function wantNoMore(more) {
+    if (ArrayBuffer.isView(more) || more?.aad !== undefined) {
+        throw new TypeError("an argument too many: the call takes no more bytes, and no associated data");
+    }
+}
+
 // Returns the associated data that options name, which is empty if they name none. Throws if they are not a plain object, as in
 // a call of version 2.0, whose last argument was a Uint8Array, or if they have a key of another name, or if it is not a
-// Uint8Array. Throws too if they have associated data that is not their own, as a Proxy may: it would be left out.
-function aadOf(options) {
+// Uint8Array. Throws too if they have associated data that is not their own, as a Proxy may: it would be left out. `more` is what
+// the call was given after them.
+function aadOf(options, more) {
+    wantNoMore(more);
     if (options === null || ![Object.prototype, null].includes(Object.getPrototypeOf(options))
         || Reflect.ownKeys(options).some((name) => name !== "aad")) {
         throw new TypeError("associated data is given by name: { aad }");
@@ -147,14 +157,6 @@ function wantTag(tag) {
         throw new TagLength();
     }
     return bytes;
-}
-
-// Throws if a call is given bytes or associated data after its last argument, such as a last piece for `finish`: they would be left
-// out. Anything else is let through, since `map` gives the index of a piece to `update`, and a stream its controller to `check`.
-function wantNoMore(more) {
-    if (ArrayBuffer.isView(more) || more?.aad !== undefined) {
-        throw new TypeError("an argument too many: the call takes no more bytes, and no associated data");
-    }
 }
 
 // Throws if a suite is not a number, which a module would read as one.
@@ -337,24 +339,24 @@ export class Aead {
     }
 
     /** Returns the ciphertext and then the tag of 16 bytes. Never use a nonce twice under one key. */
-    seal(suite, key, nonce, text, options = {}) {
-        const aad = aadOf(options);
+    seal(suite, key, nonce, text, options = {}, more) {
+        const aad = aadOf(options, more);
         [key, nonce, text] = wantBytes(key, nonce, text);
         wantNumber(suite);
         return this.#module.made(text.length + TAG_BYTES, "aeadkit_seal", suite, key, nonce, aad, text);
     }
 
     /** Returns the text of what `seal` made. */
-    open(suite, key, nonce, sealed, options = {}) {
-        const aad = aadOf(options);
+    open(suite, key, nonce, sealed, options = {}, more) {
+        const aad = aadOf(options, more);
         [key, nonce, sealed] = wantBytes(key, nonce, sealed);
         wantNumber(suite);
         return this.#module.made(Math.max(0, sealed.length - TAG_BYTES), "aeadkit_open", suite, key, nonce, aad, sealed);
     }
 
     /** Seals a text where it stands, and returns the tag of 16 bytes. Never use a nonce twice under one key. */
-    sealInPlace(suite, key, nonce, text, options = {}) {
-        const aad = aadOf(options);
+    sealInPlace(suite, key, nonce, text, options = {}, more) {
+        const aad = aadOf(options, more);
         [key, nonce, text] = wantBytes(key, nonce, text);
         wantNumber(suite);
         const tag = new Uint8Array(TAG_BYTES);
@@ -363,8 +365,8 @@ export class Aead {
     }
 
     /** Opens a ciphertext where it stands, with its tag of 16 bytes. */
-    openInPlace(suite, key, nonce, ciphertext, tag, options = {}) {
-        const aad = aadOf(options);
+    openInPlace(suite, key, nonce, ciphertext, tag, options = {}, more) {
+        const aad = aadOf(options, more);
         [key, nonce, ciphertext] = wantBytes(key, nonce, ciphertext);
         tag = wantTag(tag);
         wantNumber(suite);
@@ -436,23 +438,23 @@ export class Key {
     }
 
     /** Returns the ciphertext and then the tag of 16 bytes. Never use a nonce twice under one key. */
-    seal(nonce, text, options = {}) {
-        const aad = aadOf(options);
+    seal(nonce, text, options = {}, more) {
+        const aad = aadOf(options, more);
         [nonce, text] = wantBytes(nonce, text);
         return this.#module.made(text.length + TAG_BYTES, "aeadkit_seal_with", this.#struct.constant, nonce, aad, text);
     }
 
     /** Returns the text of what `seal` made. */
-    open(nonce, sealed, options = {}) {
-        const aad = aadOf(options);
+    open(nonce, sealed, options = {}, more) {
+        const aad = aadOf(options, more);
         [nonce, sealed] = wantBytes(nonce, sealed);
         const length = Math.max(0, sealed.length - TAG_BYTES);
         return this.#module.made(length, "aeadkit_open_with", this.#struct.constant, nonce, aad, sealed);
     }
 
     /** Seals a text where it stands, and returns the tag of 16 bytes. Never use a nonce twice under one key. */
-    sealInPlace(nonce, text, options = {}) {
-        const aad = aadOf(options);
+    sealInPlace(nonce, text, options = {}, more) {
+        const aad = aadOf(options, more);
         [nonce, text] = wantBytes(nonce, text);
         const tag = new Uint8Array(TAG_BYTES);
         this.#module.call("aeadkit_seal_in_place_with", this.#struct.constant, nonce, aad, inPlace(text), result(tag));
@@ -460,23 +462,23 @@ export class Key {
     }
 
     /** Opens a ciphertext where it stands, with its tag of 16 bytes. */
-    openInPlace(nonce, ciphertext, tag, options = {}) {
-        const aad = aadOf(options);
+    openInPlace(nonce, ciphertext, tag, options = {}, more) {
+        const aad = aadOf(options, more);
         [nonce, ciphertext] = wantBytes(nonce, ciphertext);
         tag = wantTag(tag);
         this.#module.call("aeadkit_open_in_place_with", this.#struct.constant, nonce, aad, inPlace(ciphertext), constant(tag));
     }
 
     /** Begins a sealing in pieces, of an empty text so far. Never use a nonce twice under one key. */
-    sealer(nonce, options = {}) {
-        const aad = aadOf(options);
+    sealer(nonce, options = {}, more) {
+        const aad = aadOf(options, more);
         [nonce] = wantBytes(nonce);
         return new Sealer(new Struct(this.#module, "sealer", "aeadkit_sealer_init_with", this.#struct.constant, nonce, aad));
     }
 
     /** Begins an opening in pieces of a ciphertext with a tag of 16 bytes. */
-    opener(nonce, tag, options = {}) {
-        const aad = aadOf(options);
+    opener(nonce, tag, options = {}, more) {
+        const aad = aadOf(options, more);
         [nonce] = wantBytes(nonce);
         tag = wantTag(tag);
         const words = [this.#struct.constant, nonce, aad, constant(tag)];
@@ -484,8 +486,8 @@ export class Key {
     }
 
     /** Begins a sealing in pieces under AES-GCM-SIV, of an empty text so far. Never use a nonce twice under one key. */
-    sivSealer(nonce, options = {}) {
-        const aad = aadOf(options);
+    sivSealer(nonce, options = {}, more) {
+        const aad = aadOf(options, more);
         [nonce] = wantBytes(nonce);
         return new SivSealer(new Struct(this.#module, "siv", "aeadkit_siv_init_with", this.#struct.constant, nonce, aad));
     }
@@ -501,14 +503,14 @@ export class Sealer {
     #struct;
 
     /** Begins a sealing with the calls of an Aead, of an empty text so far. Never use a nonce twice under one key. */
-    constructor(aead, suite, key, nonce, options = {}) {
+    constructor(aead, suite, key, nonce, options = {}, more) {
         // what a Key began, or what was resumed
         if (aead instanceof Struct) {
             this.#struct = aead;
             return;
         }
         const module = moduleOf(aead);
-        const aad = aadOf(options);
+        const aad = aadOf(options, more);
         [key, nonce] = wantBytes(key, nonce);
         wantNumber(suite);
         this.#struct = new Struct(module, "sealer", "aeadkit_sealer_init", suite, key, nonce, aad);
@@ -528,7 +530,8 @@ export class Sealer {
     }
 
     /** Ends the sealing here, and returns the bytes that `resume` takes. Never resume from them twice. */
-    save() {
+    save(more) {
+        wantNoMore(more);
         const saved = this.#struct.made(SAVED_SEALER_BYTES, "aeadkit_sealer_save");
         // not `this.wipe()`, which a subclass may replace
         this.#struct.call("aeadkit_sealer_wipe");
@@ -536,7 +539,8 @@ export class Sealer {
     }
 
     /** Goes on with the sealing that `save` ended. Never resume one saved state twice. */
-    static resume(aead, suite, key, nonce, saved) {
+    static resume(aead, suite, key, nonce, saved, more) {
+        wantNoMore(more);
         return new Sealer(resumed(aead, "sealer", SAVED_SEALER_BYTES, suite, key, nonce, saved));
     }
 
@@ -554,14 +558,14 @@ export class Opener {
     #struct;
 
     /** Begins an opening of a ciphertext with a tag of 16 bytes, with the calls of an Aead. */
-    constructor(aead, suite, key, nonce, tag, options = {}) {
+    constructor(aead, suite, key, nonce, tag, options = {}, more) {
         // what a Key began, or what was resumed
         if (aead instanceof Struct) {
             this.#struct = aead;
             return;
         }
         const module = moduleOf(aead);
-        const aad = aadOf(options);
+        const aad = aadOf(options, more);
         [key, nonce] = wantBytes(key, nonce);
         tag = wantTag(tag);
         wantNumber(suite);
@@ -595,12 +599,14 @@ export class Opener {
     }
 
     /** Returns the bytes that `resume` takes to go on from here. */
-    save() {
+    save(more) {
+        wantNoMore(more);
         return this.#struct.made(SAVED_PASSES_BYTES, "aeadkit_opener_save");
     }
 
     /** Goes on with the opening that `save` saved, in the pass that it was in. */
-    static resume(aead, suite, key, nonce, saved) {
+    static resume(aead, suite, key, nonce, saved, more) {
+        wantNoMore(more);
         return new Opener(resumed(aead, "opener", SAVED_PASSES_BYTES, suite, key, nonce, saved));
     }
 
@@ -618,14 +624,14 @@ export class SivSealer {
     #struct;
 
     /** Begins a sealing with the calls of an Aead, of an empty text so far. Never use a nonce twice under one key. */
-    constructor(aead, suite, key, nonce, options = {}) {
+    constructor(aead, suite, key, nonce, options = {}, more) {
         // what a Key began, or what was resumed
         if (aead instanceof Struct) {
             this.#struct = aead;
             return;
         }
         const module = moduleOf(aead);
-        const aad = aadOf(options);
+        const aad = aadOf(options, more);
         [key, nonce] = wantBytes(key, nonce);
         wantNumber(suite);
         this.#struct = new Struct(module, "siv", "aeadkit_siv_init", suite, key, nonce, aad);
@@ -658,7 +664,8 @@ export class SivSealer {
     }
 
     /** Ends the sealing here, and returns the bytes that `resume` takes. Never resume from them twice. */
-    save() {
+    save(more) {
+        wantNoMore(more);
         const saved = this.#struct.made(SAVED_PASSES_BYTES, "aeadkit_siv_save");
         // not `this.wipe()`, which a subclass may replace
         this.#struct.call("aeadkit_siv_wipe");
@@ -666,7 +673,8 @@ export class SivSealer {
     }
 
     /** Goes on with the sealing that `save` ended. Never resume one saved state twice. */
-    static resume(aead, suite, key, nonce, saved) {
+    static resume(aead, suite, key, nonce, saved, more) {
+        wantNoMore(more);
         return new SivSealer(resumed(aead, "siv", SAVED_PASSES_BYTES, suite, key, nonce, saved));
     }
 

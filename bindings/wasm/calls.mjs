@@ -145,15 +145,17 @@ assert.match(aead.version, /^3\.\d+\.\d+$/);
 // Each call that takes associated data, with what stands in the place of its options.
 const sealed = kept.seal(nonce, text, { aad });
 const named = [
-    (options) => aead.seal(suite, key, nonce, text, options), (options) => aead.open(suite, key, nonce, sealed, options),
-    (options) => kept.seal(nonce, text, options), (options) => kept.open(nonce, sealed, options),
-    (options) => aead.sealInPlace(suite, key, nonce, text.slice(), options),
-    (options) => aead.openInPlace(suite, key, nonce, sealed.slice(0, -16), sealed.slice(-16), options),
-    (options) => kept.sealInPlace(nonce, text.slice(), options),
-    (options) => kept.openInPlace(nonce, sealed.slice(0, -16), sealed.slice(-16), options),
-    (options) => kept.opener(nonce, tag, options), (options) => new Key(aead, siv, key).sivSealer(nonce, options),
-    (options) => kept.sealer(nonce, options), (options) => new Sealer(aead, suite, key, nonce, options),
-    (options) => new Opener(aead, suite, key, nonce, tag, options), (options) => new SivSealer(aead, siv, key, nonce, options),
+    (...options) => aead.seal(suite, key, nonce, text, ...options),
+    (...options) => aead.open(suite, key, nonce, sealed, ...options),
+    (...options) => kept.seal(nonce, text, ...options), (...options) => kept.open(nonce, sealed, ...options),
+    (...options) => aead.sealInPlace(suite, key, nonce, text.slice(), ...options),
+    (...options) => aead.openInPlace(suite, key, nonce, sealed.slice(0, -16), sealed.slice(-16), ...options),
+    (...options) => kept.sealInPlace(nonce, text.slice(), ...options),
+    (...options) => kept.openInPlace(nonce, sealed.slice(0, -16), sealed.slice(-16), ...options),
+    (...options) => kept.opener(nonce, tag, ...options), (...options) => new Key(aead, siv, key).sivSealer(nonce, ...options),
+    (...options) => kept.sealer(nonce, ...options), (...options) => new Sealer(aead, suite, key, nonce, ...options),
+    (...options) => new Opener(aead, suite, key, nonce, tag, ...options),
+    (...options) => new SivSealer(aead, siv, key, nonce, ...options),
 ];
 // The options are a plain object with no key but aad, or else a TypeError is thrown before any fault.
 const byName = { name: "TypeError", message: "associated data is given by name: { aad }" };
@@ -211,8 +213,9 @@ assert.throws(() => aead.seal(suite, key, nonce), TypeError);
 assert.throws(() => new Opener(aead, suite, key, nonce, none), aeadkit.TagLength);
 assert.deepEqual(kept.seal(Buffer.from(nonce), Buffer.from(text), { aad: Buffer.from(aad) }), sealed);
 
-// Bytes or associated data after the last argument are refused, and the state goes on: they would be missing in the sealing, and
-// no wrapping has associated data. The index that `map` gives, and the controller of a stream, are let through.
+// Bytes or associated data after the last argument are refused, and a state goes on: they would be missing in the sealing, as a
+// last piece, or stay as they were, as the output of a caller from C. The index that `map` gives, and the controller of a stream,
+// are let through.
 const [first, rest] = [text.subarray(0, 20), text.subarray(20)];
 const [body, itsTag] = [sealed.subarray(0, -16), sealed.subarray(-16)];
 const sealing = kept.sealer(nonce, { aad });
@@ -223,6 +226,8 @@ const extra = (call) => {
         assert.throws(() => call(more), { name: "TypeError", message: /^an argument too many/ });
     }
 };
+named.forEach((call) => extra((more) => call({ aad }, more)));
+named.forEach((call) => extra((more) => call(undefined, more)));
 extra((more) => new Key(aead, suite, key, more));
 extra((more) => keywrap.wrap(key, key, more));
 extra((more) => keywrap.unwrap(key, keywrap.wrap(key, key), more));
@@ -230,6 +235,8 @@ extra((more) => keywrap.wrapPadded(key, nonce, more));
 extra((more) => keywrap.unwrapPadded(key, keywrap.wrapPadded(key, nonce), more));
 extra((more) => sealing.update(first, more));
 const pieces = [first, rest].map(sealing.update, sealing);
+extra((more) => sealing.save(more));
+extra((more) => Sealer.resume(aead, suite, key, nonce, kept.sealer(nonce).save(), more));
 extra((more) => sealing.finish(more));
 assert.deepEqual(Buffer.concat([...pieces, sealing.finish()]), Buffer.from(sealed));
 extra((more) => opening.check(body, more));
@@ -238,6 +245,8 @@ extra((more) => opening.beginSecond(more));
 opening.beginSecond();
 extra((more) => opening.update(body, more));
 assert.deepEqual(opening.update(body), text);
+extra((more) => opening.save(more));
+extra((more) => Opener.resume(aead, suite, key, nonce, opening.save(), more));
 extra((more) => opening.finish(more));
 opening.finish();
 extra((more) => reading.absorb(first, more));
@@ -246,6 +255,8 @@ extra((more) => reading.beginSecond(more));
 const sivTag = reading.beginSecond();
 extra((more) => reading.update(first, more));
 const sivPieces = [first, rest].map(reading.update, reading);
+extra((more) => reading.save(more));
+extra((more) => SivSealer.resume(aead, siv, key, nonce, new SivSealer(aead, siv, key, nonce).save(), more));
 extra((more) => reading.finish(more));
 reading.finish();
 assert.deepEqual(Buffer.concat([...sivPieces, sivTag]), Buffer.from(aead.seal(siv, key, nonce, text, { aad })));
