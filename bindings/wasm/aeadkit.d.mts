@@ -50,7 +50,10 @@ export class NotBegun extends Refused { readonly fault: "NotBegun"; }
 /** The bytes are not a saved state of this class, suite, key and nonce, in the layout of this module. */
 export class NotSaved extends Refused { readonly fault: "NotSaved"; }
 
-/** The options of a call: a plain object, its last argument. A call throws a `TypeError` if it has a key of another name. */
+/**
+ * The options of a call: a plain object, its last argument. A call throws a `TypeError` if it has a key of another name, or an
+ * `aad` that is not its own, as a Proxy may.
+ */
 export interface Options {
     /** The associated data, which is authenticated and not encrypted, like the header of a message. Left out, it is empty. */
     aad?: Uint8Array | undefined;
@@ -63,9 +66,15 @@ export interface Options {
  * A call that throws has changed none of its arguments. Each result is a new array, and only the calls named InPlace change an
  * argument.
  *
+ * All bytes of a call have to fit in the memory of its module, for `seal` and `open` the text and the result. If they do not, the
+ * call throws a `RangeError`, and a state in pieces goes on as it was. In Node 20 a memory ends at 4 GiB: `seal` takes texts of
+ * almost 2 GiB, and longer ones are sealed in pieces. A memory does not become smaller again: after a long text an `Aead` holds
+ * as much as that needed.
+ *
  * Here and in the classes below, a call throws a `TypeError`, before the faults that it names, if an argument is not a Uint8Array
- * where one is required, or if its options are not a plain object. In version 2.0 the associated data stood before the text or the
- * tag, as a Uint8Array: such a call throws a `TypeError`.
+ * where one is required, or if its options are not a plain object. So does each call that takes or returns bytes if more bytes or
+ * associated data stand after its last argument, such as a last piece for `finish`. In version 2.0 the associated data stood
+ * before the text or the tag, as a Uint8Array: such a call throws a `TypeError`.
  */
 export class Aead {
     constructor(bytes: ArrayBuffer | ArrayBufferView);

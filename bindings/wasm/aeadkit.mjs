@@ -125,15 +125,28 @@ function wantBytes(...arrays) {
     });
 }
 
+// Throws if a call is given bytes or associated data after its last argument, such as a last piece for `finish`: they would be left
+// out. Anything else is let through, since `map` gives the index of a piece to `update`, and a stream its controller to `check`.
+function wantNoMore(more) {
+    if (ArrayBuffer.isView(more) || more?.aad !== undefined) {
+        throw new TypeError("an argument too many: the call takes no more bytes, and no associated data");
+    }
+}
+
 // Returns the associated data that options name, which is empty if they name none. Throws if they are not a plain object, as in
 // a call of version 2.0, whose last argument was a Uint8Array, or if they have a key of another name, or if it is not a
-// Uint8Array.
-function aadOf(options) {
+// Uint8Array. Throws too if they have associated data that is not their own, as a Proxy may: it would be left out. `more` is what
+// the call was given after them.
+function aadOf(options, more) {
+    wantNoMore(more);
     if (options === null || ![Object.prototype, null].includes(Object.getPrototypeOf(options))
         || Reflect.ownKeys(options).some((name) => name !== "aad")) {
         throw new TypeError("associated data is given by name: { aad }");
     }
-    const aad = Object.hasOwn(options, "aad") ? options.aad : undefined;
+    const { aad } = options;
+    if (aad !== undefined && !Object.hasOwn(options, "aad")) {
+        throw new TypeError("associated data is given by name: { aad }");
+    }
     return aad === undefined ? new Uint8Array(0) : wantBytes(aad)[0];
 }
 
@@ -169,12 +182,13 @@ function grow(memory, pages) {
 const aligned = (place) => 8 * Math.ceil(place / 8);
 
 // How a call takes bytes: by their address, and by their length unless the call knows it. If `from` is given, the call reads its
-// bytes. If `to` is given, it gets the bytes that the call leaves. A Uint8Array by itself is an input.
-const input = (from) => ({ from, hasLength: true });
-const output = (to) => ({ to, hasLength: true });
+// bytes. If `to` is given, it gets the bytes that the call leaves. A Uint8Array by itself is an input. Each has its own `from` and
+// `to`, whatever a program adds to Object.prototype.
+const input = (from) => ({ from, to: undefined, hasLength: true });
+const output = (to) => ({ from: undefined, to, hasLength: true });
 const inPlace = (from, to = from) => ({ from, to, hasLength: true });
-const constant = (from) => ({ from, hasLength: false });
-const result = (to) => ({ to, hasLength: false });
+const constant = (from) => ({ from, to: undefined, hasLength: false });
+const result = (to) => ({ from: undefined, to, hasLength: false });
 const struct = (bytes) => ({ from: bytes, to: bytes, hasLength: false });
 
 // The major version of the modules that are called here. The calls of another version have the same names and may take other
@@ -325,24 +339,24 @@ export class Aead {
     }
 
     /** Returns the ciphertext and then the tag of 16 bytes. Never use a nonce twice under one key. */
-    seal(suite, key, nonce, text, options = {}) {
-        const aad = aadOf(options);
+    seal(suite, key, nonce, text, options = {}, more) {
+        const aad = aadOf(options, more);
         [key, nonce, text] = wantBytes(key, nonce, text);
         wantNumber(suite);
         return this.#module.made(text.length + TAG_BYTES, "aeadkit_seal", suite, key, nonce, aad, text);
     }
 
     /** Returns the text of what `seal` made. */
-    open(suite, key, nonce, sealed, options = {}) {
-        const aad = aadOf(options);
+    open(suite, key, nonce, sealed, options = {}, more) {
+        const aad = aadOf(options, more);
         [key, nonce, sealed] = wantBytes(key, nonce, sealed);
         wantNumber(suite);
         return this.#module.made(Math.max(0, sealed.length - TAG_BYTES), "aeadkit_open", suite, key, nonce, aad, sealed);
     }
 
     /** Seals a text where it stands, and returns the tag of 16 bytes. Never use a nonce twice under one key. */
-    sealInPlace(suite, key, nonce, text, options = {}) {
-        const aad = aadOf(options);
+    sealInPlace(suite, key, nonce, text, options = {}, more) {
+        const aad = aadOf(options, more);
         [key, nonce, text] = wantBytes(key, nonce, text);
         wantNumber(suite);
         const tag = new Uint8Array(TAG_BYTES);
@@ -351,8 +365,8 @@ export class Aead {
     }
 
     /** Opens a ciphertext where it stands, with its tag of 16 bytes. */
-    openInPlace(suite, key, nonce, ciphertext, tag, options = {}) {
-        const aad = aadOf(options);
+    openInPlace(suite, key, nonce, ciphertext, tag, options = {}, more) {
+        const aad = aadOf(options, more);
         [key, nonce, ciphertext] = wantBytes(key, nonce, ciphertext);
         tag = wantTag(tag);
         wantNumber(suite);
@@ -409,8 +423,9 @@ export class Key {
     #struct;
     #suite;
 
-    constructor(aead, suite, key) {
+    constructor(aead, suite, key, more) {
         this.#module = moduleOf(aead);
+        wantNoMore(more);
         [key] = wantBytes(key);
         wantNumber(suite);
         this.#suite = suite;
@@ -423,23 +438,23 @@ export class Key {
     }
 
     /** Returns the ciphertext and then the tag of 16 bytes. Never use a nonce twice under one key. */
-    seal(nonce, text, options = {}) {
-        const aad = aadOf(options);
+    seal(nonce, text, options = {}, more) {
+        const aad = aadOf(options, more);
         [nonce, text] = wantBytes(nonce, text);
         return this.#module.made(text.length + TAG_BYTES, "aeadkit_seal_with", this.#struct.constant, nonce, aad, text);
     }
 
     /** Returns the text of what `seal` made. */
-    open(nonce, sealed, options = {}) {
-        const aad = aadOf(options);
+    open(nonce, sealed, options = {}, more) {
+        const aad = aadOf(options, more);
         [nonce, sealed] = wantBytes(nonce, sealed);
         const length = Math.max(0, sealed.length - TAG_BYTES);
         return this.#module.made(length, "aeadkit_open_with", this.#struct.constant, nonce, aad, sealed);
     }
 
     /** Seals a text where it stands, and returns the tag of 16 bytes. Never use a nonce twice under one key. */
-    sealInPlace(nonce, text, options = {}) {
-        const aad = aadOf(options);
+    sealInPlace(nonce, text, options = {}, more) {
+        const aad = aadOf(options, more);
         [nonce, text] = wantBytes(nonce, text);
         const tag = new Uint8Array(TAG_BYTES);
         this.#module.call("aeadkit_seal_in_place_with", this.#struct.constant, nonce, aad, inPlace(text), result(tag));
@@ -447,23 +462,23 @@ export class Key {
     }
 
     /** Opens a ciphertext where it stands, with its tag of 16 bytes. */
-    openInPlace(nonce, ciphertext, tag, options = {}) {
-        const aad = aadOf(options);
+    openInPlace(nonce, ciphertext, tag, options = {}, more) {
+        const aad = aadOf(options, more);
         [nonce, ciphertext] = wantBytes(nonce, ciphertext);
         tag = wantTag(tag);
         this.#module.call("aeadkit_open_in_place_with", this.#struct.constant, nonce, aad, inPlace(ciphertext), constant(tag));
     }
 
     /** Begins a sealing in pieces, of an empty text so far. Never use a nonce twice under one key. */
-    sealer(nonce, options = {}) {
-        const aad = aadOf(options);
+    sealer(nonce, options = {}, more) {
+        const aad = aadOf(options, more);
         [nonce] = wantBytes(nonce);
         return new Sealer(new Struct(this.#module, "sealer", "aeadkit_sealer_init_with", this.#struct.constant, nonce, aad));
     }
 
     /** Begins an opening in pieces of a ciphertext with a tag of 16 bytes. */
-    opener(nonce, tag, options = {}) {
-        const aad = aadOf(options);
+    opener(nonce, tag, options = {}, more) {
+        const aad = aadOf(options, more);
         [nonce] = wantBytes(nonce);
         tag = wantTag(tag);
         const words = [this.#struct.constant, nonce, aad, constant(tag)];
@@ -471,8 +486,8 @@ export class Key {
     }
 
     /** Begins a sealing in pieces under AES-GCM-SIV, of an empty text so far. Never use a nonce twice under one key. */
-    sivSealer(nonce, options = {}) {
-        const aad = aadOf(options);
+    sivSealer(nonce, options = {}, more) {
+        const aad = aadOf(options, more);
         [nonce] = wantBytes(nonce);
         return new SivSealer(new Struct(this.#module, "siv", "aeadkit_siv_init_with", this.#struct.constant, nonce, aad));
     }
@@ -488,39 +503,44 @@ export class Sealer {
     #struct;
 
     /** Begins a sealing with the calls of an Aead, of an empty text so far. Never use a nonce twice under one key. */
-    constructor(aead, suite, key, nonce, options = {}) {
+    constructor(aead, suite, key, nonce, options = {}, more) {
         // what a Key began, or what was resumed
         if (aead instanceof Struct) {
             this.#struct = aead;
             return;
         }
         const module = moduleOf(aead);
-        const aad = aadOf(options);
+        const aad = aadOf(options, more);
         [key, nonce] = wantBytes(key, nonce);
         wantNumber(suite);
         this.#struct = new Struct(module, "sealer", "aeadkit_sealer_init", suite, key, nonce, aad);
     }
 
     /** Returns the ciphertext of the next piece of the text, of any length. */
-    update(piece) {
+    update(piece, more) {
+        wantNoMore(more);
         [piece] = wantBytes(piece);
         return this.#struct.changed("aeadkit_sealer_update", piece);
     }
 
     /** Ends the sealing, and returns the tag of 16 bytes. */
-    finish() {
+    finish(more) {
+        wantNoMore(more);
         return this.#struct.made(TAG_BYTES, "aeadkit_sealer_finish");
     }
 
     /** Ends the sealing here, and returns the bytes that `resume` takes. Never resume from them twice. */
-    save() {
+    save(more) {
+        wantNoMore(more);
         const saved = this.#struct.made(SAVED_SEALER_BYTES, "aeadkit_sealer_save");
-        this.wipe();
+        // not `this.wipe()`, which a subclass may replace
+        this.#struct.call("aeadkit_sealer_wipe");
         return saved;
     }
 
     /** Goes on with the sealing that `save` ended. Never resume one saved state twice. */
-    static resume(aead, suite, key, nonce, saved) {
+    static resume(aead, suite, key, nonce, saved, more) {
+        wantNoMore(more);
         return new Sealer(resumed(aead, "sealer", SAVED_SEALER_BYTES, suite, key, nonce, saved));
     }
 
@@ -538,14 +558,14 @@ export class Opener {
     #struct;
 
     /** Begins an opening of a ciphertext with a tag of 16 bytes, with the calls of an Aead. */
-    constructor(aead, suite, key, nonce, tag, options = {}) {
+    constructor(aead, suite, key, nonce, tag, options = {}, more) {
         // what a Key began, or what was resumed
         if (aead instanceof Struct) {
             this.#struct = aead;
             return;
         }
         const module = moduleOf(aead);
-        const aad = aadOf(options);
+        const aad = aadOf(options, more);
         [key, nonce] = wantBytes(key, nonce);
         tag = wantTag(tag);
         wantNumber(suite);
@@ -553,34 +573,40 @@ export class Opener {
     }
 
     /** Takes the next piece of the ciphertext in the first pass. */
-    check(piece) {
+    check(piece, more) {
+        wantNoMore(more);
         [piece] = wantBytes(piece);
         this.#struct.call("aeadkit_opener_check", piece);
     }
 
     /** Ends the first pass and begins the second. Throws `TagMismatch` if authentication failed, which ends the opening. */
-    beginSecond() {
+    beginSecond(more) {
+        wantNoMore(more);
         this.#struct.call("aeadkit_opener_begin_second");
     }
 
     /** Returns the text of the next piece of the ciphertext in the second pass. */
-    update(piece) {
+    update(piece, more) {
+        wantNoMore(more);
         [piece] = wantBytes(piece);
         return this.#struct.changed("aeadkit_opener_update", piece);
     }
 
     /** Ends the second pass. After `SourceChanged`, if its authentication failed, throw away what `update` returned. */
-    finish() {
+    finish(more) {
+        wantNoMore(more);
         this.#struct.call("aeadkit_opener_finish");
     }
 
     /** Returns the bytes that `resume` takes to go on from here. */
-    save() {
+    save(more) {
+        wantNoMore(more);
         return this.#struct.made(SAVED_PASSES_BYTES, "aeadkit_opener_save");
     }
 
     /** Goes on with the opening that `save` saved, in the pass that it was in. */
-    static resume(aead, suite, key, nonce, saved) {
+    static resume(aead, suite, key, nonce, saved, more) {
+        wantNoMore(more);
         return new Opener(resumed(aead, "opener", SAVED_PASSES_BYTES, suite, key, nonce, saved));
     }
 
@@ -598,50 +624,57 @@ export class SivSealer {
     #struct;
 
     /** Begins a sealing with the calls of an Aead, of an empty text so far. Never use a nonce twice under one key. */
-    constructor(aead, suite, key, nonce, options = {}) {
+    constructor(aead, suite, key, nonce, options = {}, more) {
         // what a Key began, or what was resumed
         if (aead instanceof Struct) {
             this.#struct = aead;
             return;
         }
         const module = moduleOf(aead);
-        const aad = aadOf(options);
+        const aad = aadOf(options, more);
         [key, nonce] = wantBytes(key, nonce);
         wantNumber(suite);
         this.#struct = new Struct(module, "siv", "aeadkit_siv_init", suite, key, nonce, aad);
     }
 
     /** Takes the next piece of the text in the first reading. */
-    absorb(piece) {
+    absorb(piece, more) {
+        wantNoMore(more);
         [piece] = wantBytes(piece);
         this.#struct.call("aeadkit_siv_absorb", piece);
     }
 
     /** Ends the first reading and begins the second. Returns the tag of 16 bytes. */
-    beginSecond() {
+    beginSecond(more) {
+        wantNoMore(more);
         return this.#struct.made(TAG_BYTES, "aeadkit_siv_begin_second");
     }
 
     /** Returns the ciphertext of the next piece of the text in the second reading. */
-    update(piece) {
+    update(piece, more) {
+        wantNoMore(more);
         [piece] = wantBytes(piece);
         return this.#struct.changed("aeadkit_siv_update", piece);
     }
 
     /** Ends the second reading. After `SourceChanged`, if it read another text, throw away what `update` returned. */
-    finish() {
+    finish(more) {
+        wantNoMore(more);
         this.#struct.call("aeadkit_siv_finish");
     }
 
     /** Ends the sealing here, and returns the bytes that `resume` takes. Never resume from them twice. */
-    save() {
+    save(more) {
+        wantNoMore(more);
         const saved = this.#struct.made(SAVED_PASSES_BYTES, "aeadkit_siv_save");
-        this.wipe();
+        // not `this.wipe()`, which a subclass may replace
+        this.#struct.call("aeadkit_siv_wipe");
         return saved;
     }
 
     /** Goes on with the sealing that `save` ended. Never resume one saved state twice. */
-    static resume(aead, suite, key, nonce, saved) {
+    static resume(aead, suite, key, nonce, saved, more) {
+        wantNoMore(more);
         return new SivSealer(resumed(aead, "siv", SAVED_PASSES_BYTES, suite, key, nonce, saved));
     }
 
@@ -660,25 +693,29 @@ export class KeyWrap {
     }
 
     /** Returns the wrapping of a text, which is 8 bytes longer. */
-    wrap(key, text) {
+    wrap(key, text, more) {
+        wantNoMore(more);
         [key, text] = wantBytes(key, text);
         return this.#module.made(text.length + WRAP_BYTES, "aeadkit_wrap", key, text);
     }
 
     /** Returns the text of what `wrap` made. */
-    unwrap(key, wrapped) {
+    unwrap(key, wrapped, more) {
+        wantNoMore(more);
         [key, wrapped] = wantBytes(key, wrapped);
         return this.#module.made(Math.max(0, wrapped.length - WRAP_BYTES), "aeadkit_unwrap", key, wrapped);
     }
 
     /** Returns the wrapping with padding of a text of 1 to 2^32 - 1 bytes. */
-    wrapPadded(key, text) {
+    wrapPadded(key, text, more) {
+        wantNoMore(more);
         [key, text] = wantBytes(key, text);
         return this.#module.made(aligned(text.length) + WRAP_BYTES, "aeadkit_wrap_padded", key, text);
     }
 
     /** Returns the text of what `wrapPadded` made. */
-    unwrapPadded(key, wrapped) {
+    unwrapPadded(key, wrapped, more) {
+        wantNoMore(more);
         [key, wrapped] = wantBytes(key, wrapped);
         const text = new Uint8Array(Math.max(0, wrapped.length - WRAP_BYTES));
         const length = new Uint8Array(8);

@@ -145,15 +145,17 @@ assert.match(aead.version, /^3\.\d+\.\d+$/);
 // Each call that takes associated data, with what stands in the place of its options.
 const sealed = kept.seal(nonce, text, { aad });
 const named = [
-    (options) => aead.seal(suite, key, nonce, text, options), (options) => aead.open(suite, key, nonce, sealed, options),
-    (options) => kept.seal(nonce, text, options), (options) => kept.open(nonce, sealed, options),
-    (options) => aead.sealInPlace(suite, key, nonce, text.slice(), options),
-    (options) => aead.openInPlace(suite, key, nonce, sealed.slice(0, -16), sealed.slice(-16), options),
-    (options) => kept.sealInPlace(nonce, text.slice(), options),
-    (options) => kept.openInPlace(nonce, sealed.slice(0, -16), sealed.slice(-16), options),
-    (options) => kept.opener(nonce, tag, options), (options) => new Key(aead, siv, key).sivSealer(nonce, options),
-    (options) => kept.sealer(nonce, options), (options) => new Sealer(aead, suite, key, nonce, options),
-    (options) => new Opener(aead, suite, key, nonce, tag, options), (options) => new SivSealer(aead, siv, key, nonce, options),
+    (...options) => aead.seal(suite, key, nonce, text, ...options),
+    (...options) => aead.open(suite, key, nonce, sealed, ...options),
+    (...options) => kept.seal(nonce, text, ...options), (...options) => kept.open(nonce, sealed, ...options),
+    (...options) => aead.sealInPlace(suite, key, nonce, text.slice(), ...options),
+    (...options) => aead.openInPlace(suite, key, nonce, sealed.slice(0, -16), sealed.slice(-16), ...options),
+    (...options) => kept.sealInPlace(nonce, text.slice(), ...options),
+    (...options) => kept.openInPlace(nonce, sealed.slice(0, -16), sealed.slice(-16), ...options),
+    (...options) => kept.opener(nonce, tag, ...options), (...options) => new Key(aead, siv, key).sivSealer(nonce, ...options),
+    (...options) => kept.sealer(nonce, ...options), (...options) => new Sealer(aead, suite, key, nonce, ...options),
+    (...options) => new Opener(aead, suite, key, nonce, tag, ...options),
+    (...options) => new SivSealer(aead, siv, key, nonce, ...options),
 ];
 // The options are a plain object with no key but aad, or else a TypeError is thrown before any fault.
 const byName = { name: "TypeError", message: "associated data is given by name: { aad }" };
@@ -162,6 +164,8 @@ for (const other of [
     new DataView(new ArrayBuffer(16)), [], [aad], "", "aad", 0, 16, 1n, true, false, null, Symbol("aad"), () => aad,
     new Map([["aad", aad]]), new (class { aad = aad; })(), Object.create({ aad }), { add: aad }, { AAD: aad }, { aad, add: aad },
     { aad, tag: undefined }, { [Symbol("aad")]: aad }, Object.defineProperty({}, "add", { value: aad }),
+    // their aad is not their own, and would be left out
+    new Proxy({}, { get: () => aad }), new Proxy({}, { get: () => aad, ownKeys: () => ["aad"] }),
 ]) {
     for (const call of named) {
         assert.throws(() => call(other), byName);
@@ -169,6 +173,7 @@ for (const other of [
 }
 named.forEach((call) => call({ aad }));
 named.forEach((call) => call({ __proto__: null, aad }));
+assert.deepEqual(kept.seal(nonce, text, new Proxy({ aad }, {})), sealed);
 
 // A call in the order of version 2.0, whose associated data stood before the text or the tag, throws that TypeError.
 for (const call of [
@@ -207,6 +212,54 @@ assert.throws(() => kept.seal(nonce), TypeError);
 assert.throws(() => aead.seal(suite, key, nonce), TypeError);
 assert.throws(() => new Opener(aead, suite, key, nonce, none), aeadkit.TagLength);
 assert.deepEqual(kept.seal(Buffer.from(nonce), Buffer.from(text), { aad: Buffer.from(aad) }), sealed);
+
+// Bytes or associated data after the last argument are refused, and a state goes on: they would be missing in the sealing, as a
+// last piece, or stay as they were, as the output of a caller from C. The index that `map` gives, and the controller of a stream,
+// are let through.
+const [first, rest] = [text.subarray(0, 20), text.subarray(20)];
+const [body, itsTag] = [sealed.subarray(0, -16), sealed.subarray(-16)];
+const sealing = kept.sealer(nonce, { aad });
+const opening = kept.opener(nonce, itsTag, { aad });
+const reading = new SivSealer(aead, siv, key, nonce, { aad });
+const extra = (call) => {
+    for (const more of [rest, none, Buffer.from(rest), { aad }]) {
+        assert.throws(() => call(more), { name: "TypeError", message: /^an argument too many/ });
+    }
+};
+named.forEach((call) => extra((more) => call({ aad }, more)));
+named.forEach((call) => extra((more) => call(undefined, more)));
+extra((more) => new Key(aead, suite, key, more));
+extra((more) => keywrap.wrap(key, key, more));
+extra((more) => keywrap.unwrap(key, keywrap.wrap(key, key), more));
+extra((more) => keywrap.wrapPadded(key, nonce, more));
+extra((more) => keywrap.unwrapPadded(key, keywrap.wrapPadded(key, nonce), more));
+extra((more) => sealing.update(first, more));
+const pieces = [first, rest].map(sealing.update, sealing);
+extra((more) => sealing.save(more));
+extra((more) => Sealer.resume(aead, suite, key, nonce, kept.sealer(nonce).save(), more));
+extra((more) => sealing.finish(more));
+assert.deepEqual(Buffer.concat([...pieces, sealing.finish()]), Buffer.from(sealed));
+extra((more) => opening.check(body, more));
+await new Blob([body]).stream().pipeTo(new WritableStream({ write: opening.check.bind(opening) }));
+extra((more) => opening.beginSecond(more));
+opening.beginSecond();
+extra((more) => opening.update(body, more));
+assert.deepEqual(opening.update(body), text);
+extra((more) => opening.save(more));
+extra((more) => Opener.resume(aead, suite, key, nonce, opening.save(), more));
+extra((more) => opening.finish(more));
+opening.finish();
+extra((more) => reading.absorb(first, more));
+[first, rest].forEach(reading.absorb, reading);
+extra((more) => reading.beginSecond(more));
+const sivTag = reading.beginSecond();
+extra((more) => reading.update(first, more));
+const sivPieces = [first, rest].map(reading.update, reading);
+extra((more) => reading.save(more));
+extra((more) => SivSealer.resume(aead, siv, key, nonce, new SivSealer(aead, siv, key, nonce).save(), more));
+extra((more) => reading.finish(more));
+reading.finish();
+assert.deepEqual(Buffer.concat([...sivPieces, sivTag]), Buffer.from(aead.seal(siv, key, nonce, text, { aad })));
 
 // Each result is a new array, and no argument changes.
 const before = [key, nonce, tag, text].map((array) => array.slice());
@@ -421,6 +474,27 @@ const options = {
     },
 };
 assert.deepEqual(kept.seal(nonce, text, options), kept.seal(nonce, text, { aad: options.aad }));
+
+// What another part of the program adds to Object.prototype changes no result, as a tag that is zeros.
+for (const name of ["from", "to", "hasLength"]) {
+    for (const value of [[], new Uint8Array(3), "abc", 5]) {
+        Object.defineProperty(Object.prototype, name, { value, configurable: true, writable: true });
+        try {
+            const changed = text.slice();
+            const itsTag = kept.sealInPlace(nonce, changed, { aad });
+            assert.equal(Buffer.compare(Buffer.concat([changed, itsTag]), sealed), 0);
+            const sealer = kept.sealer(nonce, { aad });
+            const head = sealer.update(text.subarray(0, 20));
+            const resumed = Sealer.resume(aead, suite, key, nonce, sealer.save());
+            const parts = [head, resumed.update(text.subarray(20)), resumed.finish()];
+            assert.equal(Buffer.compare(Buffer.concat(parts), sealed), 0);
+            assert.equal(Buffer.compare(kept.open(nonce, kept.seal(nonce, text)), text), 0);
+            assert.equal(Buffer.compare(keywrap.unwrapPadded(key, keywrap.wrapPadded(key, nonce)), nonce), 0);
+        } finally {
+            delete Object.prototype[name];
+        }
+    }
+}
 
 // A call that the host cuts off, since its stack is full, changes nothing, and the calls after it give the right results.
 const atTheEndOfTheStack = (call) => {

@@ -105,4 +105,15 @@ for (const suite of Object.values(Suite)) {
     assert.equal(resumed.constructor, Opener);
     assert.deepEqual(saved, before);
 }
+
+// `save` ends a sealing whose class has its own `wipe` too: otherwise two texts could be sealed with one nonce.
+for (const [Class, suite] of [[Sealer, Suite.AES_256_GCM], [SivSealer, Suite.AES_256_GCM_SIV]]) {
+    const own = new (class extends Class { wipe() {} })(aead, suite, keyOf(suite), nonce);
+    const replaced = Object.assign(new Class(aead, suite, keyOf(suite), nonce), { wipe: () => {} });
+    for (const sealing of [own, replaced]) {
+        sealing.save();
+        assert.throws(() => sealing.save(), NotBegun);
+        assert.throws(() => sealing.finish(), NotBegun);
+    }
+}
 assert.equal(String(new NotSaved()), "NotSaved: not a saved state of this class, suite, key and nonce");
