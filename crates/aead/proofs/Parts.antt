@@ -1,14 +1,11 @@
 -- The text of a ciphertext that is taken in part by part.
-use Rattle.std.proofs.Common.{◌≡◌, ℕ, ◌+◌, ◌-◌, ◌≤◌, List, [], ◌++◌, length, take, drop, refl, sym, ap, ap₂, subst, ◌∙◌}
+use Rattle.std.proofs.Common.{◌≡◌, ℕ, ◌+◌, List, [], ◌++◌, length, sym, ap, subst, ◌∙◌}
 use Rattle.std.proofs.Common.{arith, length-append}
-use Rattle.std.proofs.Math.Seq.{drop-append-add, drop-append_seam, take-append-add, take-append_seam, drop-drop, take-add}
-use Rattle.std.proofs.lemmas.List.{append_assoc, append-nil, length-take-le, length-drop, drop_all}
-use borrow.Rule.Slice.PartMut.{put_mid}
+use Rattle.std.proofs.lemmas.List.{append_assoc, append-nil}
 use Rattle.octets.specs.Masked.{masked}
-use Rattle.octets.proofs.Masks.{masked-append}
 use Rattle.aead.specs.Sealing.{Setting, mask_of}
 use Rattle.aead.specs.Code.States.{HoldsAuthenticator}
-use Rattle.aead.specs.Code.Masks.{Masks, Takes, TakesText}
+use Rattle.aead.specs.Code.Masks.{TakesText}
 use Rattle.aead.specs.declared.authenticator.Authenticator.{Authenticator}
 
 -- the text of no bytes is taken in by doing nothing

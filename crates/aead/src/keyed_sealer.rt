@@ -15,7 +15,7 @@ use aes::{AesKey, KnownBlock};
 use octets::{Block, Fault, Tag};
 
 /// A text that is sealed piece by piece in one reading, with the bytes of its key and nonce. Each number may have any value.
-/// [`crate::Sealer`] is faster for short pieces: each call here makes the key schedule again.
+/// [`crate::Sealer`] is faster for short pieces: under AES-GCM each piece makes the key schedule again here.
 #[repr(C)]
 #[derive(Clone, Copy)]
 pub struct KeyedSealer {

@@ -17,7 +17,7 @@ use aes::{AesKey, KnownBlock};
 use octets::{Block, Fault, Tag};
 
 /// A text that is sealed piece by piece in two readings under AES-GCM-SIV, with the bytes of its keys. Each number may have any
-/// value. [`crate::SivAbsorb`] is faster for short pieces: each call here makes the key schedule again.
+/// value. [`crate::SivAbsorb`] is faster for short pieces: each piece makes the key schedule again here.
 #[repr(C)]
 #[derive(Clone, Copy)]
 pub struct KeyedSiv {

@@ -15,7 +15,7 @@ use crate::masking::Masking;
 
 // The stage of a pass, between the reading and the outlet: it takes in each piece, and may mask it before it is given.
 pub(crate) trait Stage {
-    // What the message is whose pieces it takes in.
+    // The message whose pieces it takes in.
     ghost Message: { Type 0 };
 
     // The most bytes that the pieces of a message may have together.

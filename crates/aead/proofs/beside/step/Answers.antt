@@ -1,6 +1,3 @@
-use Rattle.std.proofs.Common.{subst, sym}
-use Rattle.octets.specs.declared.work.Order.{Order}
-use Rattle.aead.specs.Code.Masks.{MasksAndHashes, hashed_by}
 use Rattle.aead.proofs.Maskings.{mask_first, in_order}
 use Rattle.aead.proofs.beside.step.Goals as goal
 
