@@ -103,6 +103,7 @@ cat vectors | ends 0 '' '' check /dev/stdin
 [ "$(cat printed)" = 'records 1' ] || fails "check /dev/stdin prints $(cat printed)"
 ends 3 Read '' check -
 ends 2 Words '' check -vectors
+ends 2 Words '' check -heat.vectors
 ends 0 '' '' check -- -vectors
 
 # /dev/stdout as OUT, into a pipe and into a file, however often IN is read.

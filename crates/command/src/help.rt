@@ -97,6 +97,7 @@ The sealed file does not hold the suite, the nonce or the associated data: store
 IN is read once, for AES-GCM-SIV twice; a pipe can't be read twice.
 OUT must not be another name of IN: a file of more than 64 KiB is lost, with status 3.
 To print into a file use a pipe, --out /dev/stdout | cat > FILE: /dev/stdout truncates a file.
+The status is that of cat then, unless the shell's option pipefail is set.
 HEX is an even number of hex digits of either case. --aad is empty by default.
 Never use a nonce twice under one key.
 
@@ -114,6 +115,7 @@ The suite, the key, the nonce and the associated data are those that the file wa
 IN is read three times; a pipe can't be.
 OUT must not be another name of IN: a file of more than 64 KiB is lost, with status 3.
 To print into a file use a pipe, --out /dev/stdout | cat > FILE: /dev/stdout truncates a file.
+The status is that of cat then, unless the shell's option pipefail is set.
 HEX is an even number of hex digits of either case. --aad is empty by default.
 
 Example:

@@ -146,10 +146,32 @@ fn request_of<'a>(matches: &ArgMatches<'a>) -> Option<Request<'a>>
     }))
 }
 
+// Whether a word begins as `-h` or `-V` does and goes on. clap takes it for that option.
+fn begins_as_an_option(word: &str) -> bool {
+    word.len() > 2 && (word.starts_with("-h") || word.starts_with("-V"))
+}
+
+// Whether one of the words in front of `--` does.
+fn has_such_a_word<S: AsStr>(words: &[S]) -> bool {
+    for word in words {
+        let word = word.as_str();
+        if word == "--" {
+            return false;
+        }
+        if begins_as_an_option(word) {
+            return true;
+        }
+    }
+    false
+}
+
 // Returns the request that the words after the program's name make, or why they don't make one.
 pub(crate) fn read<'a, S: AsStr>(alloc: Global, words: &'a [S]) -> Result<Request<'a>, Refusal>
     ensures { IfOk result HasTwoPaths }
 {
+    if has_such_a_word(words) {
+        return Err(Refusal::Words);
+    }
     let Ok(command) = command(alloc) else {
         return Err(Refusal::OutOfMemory);
     };

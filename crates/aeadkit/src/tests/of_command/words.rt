@@ -67,6 +67,10 @@ const OF_WORDS: &str = "\
 2 Words open --suite aes-128-gcm --key 000102030405060708090a0b0c0d0e0f --nonce -
 2 Words check
 2 Words check a b
+2 Words check -heat.vectors
+2 Words check -Vectors
+2 Words -hx
+2 Words -Version
 2 Words seal-file
 2 Words help frob
 2 Words seal --version";
