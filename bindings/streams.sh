@@ -101,6 +101,12 @@ same out text
 ends 0 '' '< vectors' check /dev/stdin
 cat vectors | ends 0 '' '' check /dev/stdin
 [ "$(cat printed)" = 'records 1' ] || fails "check /dev/stdin prints $(cat printed)"
+# A file is read from its beginning, wherever an earlier command left it.
+{ echo 'a line'; cat text; } > lines
+"$program" seal-file $once --in lines --out lines.once
+{ read -r line; ends 0 '' '' seal-file $once --in /dev/stdin --out out; } < lines
+[ "$line" = 'a line' ] || fails "read takes $line"
+same out lines.once
 ends 3 Read '' check -
 ends 2 Words '' check -vectors
 ends 2 Words '' check -heat.vectors
@@ -116,6 +122,26 @@ for suite in once twice; do
     "$program" open-file $options --in long.$suite --out /dev/stdout > out
     same out long
 done
+
+# A new OUT has the permissions that umask leaves, and an OUT that exists keeps its own.
+for mask in 022:-rw-r--r-- 077:-rw-------; do
+    rm -f out
+    (umask ${mask%%:*} && ends 0 '' '' seal-file $once --in text --out out)
+    [ "$(ls -l out | cut -c 1-10)" = ${mask#*:} ] || fails "a new OUT is $(ls -l out)"
+done
+chmod 640 out
+(umask 022 && ends 0 '' '' seal-file $once --in text --out out)
+[ "$(ls -l out | cut -c 1-10)" = -rw-r----- ] || fails "an OUT that exists becomes $(ls -l out)"
+
+# The longest text of `seal` whose sealing `open` takes. The sealing of a longer one is too long for a word.
+zeros() {
+    head -c $((2 * $1)) /dev/zero | tr '\0' 0
+}
+"$program" seal $once --text "$(zeros 65519)" > sealed
+[ "$("$program" open $once --sealed "$(cat sealed)")" = "$(zeros 65519)" ] || fails "open takes no sealing of 65,535 bytes"
+"$program" seal $once --text "$(zeros 65520)" > sealed
+[ "$(wc -c < sealed)" = 131073 ] || fails "seal takes no text of 65,520 bytes"
+! "$program" open $once --sealed "$(cat sealed)" > printed 2> fault || fails "open takes a sealing of 65,536 bytes"
 
 # A second name of IN as OUT loses a file of more than 64 KiB. The fault is `Read`.
 for name in ./in hard soft; do
