@@ -1,7 +1,9 @@
 #!/bin/sh
 # Writes the man page and the completions of bash, zsh and fish from the help that the program prints, and from docs/
-# the table of statuses; and lays out the documents that a user of the program needs.
+# the table of statuses; and lays out the documents that a user of the program needs. If the program prints no help, the
+# pages that are there stay as they were, and the status is 1.
 set -eu
+unset CDPATH
 if [ $# != 2 ]; then
     echo "usage: pages.sh PROGRAM SHARE
   SHARE   gets man/man1, doc/aeadkit, bash-completion/completions, zsh/site-functions and
@@ -13,12 +15,21 @@ share=$2
 docs=$(cd "$(dirname "$0")/../docs" && pwd)
 room=$(mktemp -d)
 trap 'rm -rf "$room"' EXIT
-names=$("$program" help | awk '/^Commands:/ { on = 1; next } /^$/ { on = 0 } on && $1 != "help" { print $1 }')
+# Writes what the program prints to a file: printed FILE WORD..
+printed() {
+    file=$1
+    shift
+    "$program" "$@" > "$file" && [ -s "$file" ] || { echo "$program $* fails or prints nothing: no page is laid out" >&2; exit 1; }
+}
+printed "$room/help" help
+printed "$room/version" --version
+names=$(awk '/^Commands:/ { on = 1; next } /^$/ { on = 0 } on && $1 != "help" { print $1 }' "$room/help")
+[ -n "$names" ] || { echo "the help of $program names no command: no page is laid out" >&2; exit 1; }
 
 # The table of a subcommand, with the character 037 between: its options and words, each with the name of its value and the first line
 # of its help, and the values that the further lines list.
 for name in $names; do
-    "$program" help "$name" > "$room/$name.help"
+    printed "$room/$name.help" help "$name"
     awk -v OFS='\037' '
         function flush() { if (word != "") print word, value, text, values; word = "" }
         /^(Options|Arguments):/ { on = 1; next }
@@ -85,9 +96,9 @@ part_of() {
 }
 
 manual() {
-    echo ".TH AEADKIT 1 \"\" \"$("$program" --version)\" \"User Commands\""
+    echo ".TH AEADKIT 1 \"\" \"$(cat "$room/version")\" \"User Commands\""
     echo '.SH NAME'
-    "$program" help | sed -n '1s/^/aeadkit \\- /p'
+    sed -n '1s/^/aeadkit \\- /p' "$room/help"
     echo '.SH SYNOPSIS'
     echo '.nf'
     for name in $names; do
@@ -215,9 +226,9 @@ fish_completion() {
     done
 }
 
-# Writes what a function prints to a file: into FILE FUNCTION WORD..
+# Writes what a function prints to a file that is laid out once all are written: into FILE FUNCTION WORD..
 into() {
-    file=$share/$1
+    file=$room/share/$1
     shift
     mkdir -p "$(dirname "$file")"
     "$@" > "$file"
@@ -229,3 +240,5 @@ into doc/aeadkit/VECTOR-FILES.md document VECTOR-FILES.md
 into bash-completion/completions/aeadkit bash_completion
 into zsh/site-functions/_aeadkit zsh_completion
 into fish/vendor_completions.d/aeadkit.fish fish_completion
+mkdir -p "$share"
+cp -R "$room/share/." "$share/"

@@ -1,7 +1,8 @@
 #!/bin/sh
-# Looks at the man page, completes command lines, seals, damages and opens files by examples/files.sh, and compares the two builds
-# of the program, if both are there.
+# Looks at the man page, completes command lines, seals, damages and opens files by examples/files.sh, runs the scripts of the
+# documents, and compares the two builds of the program, if both are there.
 set -eu
+unset CDPATH
 if [ $# != 1 ]; then
     echo "usage: program-check.sh PREFIX" >&2
     exit 2
@@ -31,6 +32,23 @@ if groff --version > "$room/log" 2>&1; then
     [ ! -s "$room/log" ] || { cat "$room/log" >&2; exit 1; }
 fi
 echo "ok: the man page has each fault"
+
+# A program that fails or prints no help leaves the pages as they were. CDPATH leads nowhere.
+mkdir -p "$room/elsewhere/bindings" "$room/elsewhere/docs"
+lay_out() {
+    (cd .. && CDPATH=$room/elsewhere bindings/pages.sh "$1" "$room/pages")
+}
+lay_out "$prefix/bin/aeadkit"
+cp -R "$room/pages" "$room/pages-before"
+for body in 'exit 0' 'exit 1' "[ \$# = 2 ] || exec '$prefix/bin/aeadkit' \"\$@\"" "'$prefix/bin/aeadkit' \"\$@\"; exit 1"; do
+    printf '#!/bin/sh\n%s\n' "$body" > "$room/no-help"
+    chmod +x "$room/no-help"
+    status=0
+    lay_out "$room/no-help" > "$room/log" 2>&1 || status=$?
+    [ $status = 1 ] && grep -q 'no page is laid out$' "$room/log" && diff -r "$room/pages-before" "$room/pages" >&2 \
+        || { echo "pages.sh lays out the pages of a program without help: $body" >&2; exit 1; }
+done
+echo "ok: pages.sh lays out no page of a program without help"
 
 if bash --version > "$room/log" 2>&1; then
     bash completion-check.bash "$share/bash-completion/completions/aeadkit"
@@ -151,6 +169,88 @@ for words in "seal:a text" "open:a sealed text"; do
     rm out
 done
 echo "ok: files by a script, whole, damaged, cut and exchanged"
+
+# The scripts of the documents, as they stand there, on good and on failing inputs. Prints the block, indented by 4, under the first
+# line of a document that ends in these words: block DOCUMENT WORDS
+block() {
+    awk -v words="$2" '
+        at && /^    / { print substr($0, 5); at = 2; next }
+        at == 2 || (at && !/^$/) { exit }
+        !at { at = length($0) >= length(words) && substr($0, length($0) - length(words) + 1) == words }
+        END { exit at != 2 }
+    ' "$here/../docs/$1.md" || { echo "$1.md has no script under '$2'" >&2; exit 1; }
+}
+# Runs a script: pasted STATUS DOCUMENT WORDS. The program that it calls is that of PREFIX.
+pasted() {
+    block "$2" "$3" > "$room/script"
+    status=0
+    PATH=$prefix/bin:$PATH sh "$room/script" > "$room/printed" 2> "$room/fault" || status=$?
+    [ $status = "$1" ] || { echo "the script of $2.md under '$3' ends with $status and not $1:" >&2; cat "$room/fault" >&2; exit 1; }
+}
+prints() {
+    [ "$(cat "$room/printed")" = "$1" ] || { echo "instead of '$1':" >&2; cat "$room/printed" >&2; exit 1; }
+}
+mkdir "$room/pasted"
+cd "$room/pasted"
+key=$(cat ../key) suite=aes-256-gcm-siv nonce=000102030405060708090a0b aad=00 text=0102 source="a test"
+export key suite nonce aad text source
+opens="the status of the step that failed:"
+"$prefix/bin/aeadkit" seal-file --suite $suite --key "$key" --nonce $nonce --in "../a text" --out backup.sealed
+pasted 0 COMMAND "$opens"
+cmp backup "../a text"
+# Whatever step fails, backup stays as it was, and nothing else is left behind.
+echo earlier > backup
+kept() {
+    pasted "$1" COMMAND "$opens"
+    [ "$(cat backup) $(echo backup*)" = "earlier $2" ] || { echo "the script of COMMAND.md leaves $(echo backup*)" >&2; exit 1; }
+}
+mkdir ../stubs
+printf '#!/bin/sh\nexit 5\n' > ../stubs/mv
+chmod +x ../stubs/mv
+(PATH=$room/stubs:$PATH && kept 5 "backup backup.sealed")
+printf x >> backup.sealed
+kept 1 "backup backup.sealed"
+(key=00 && kept 2 "backup backup.sealed")
+rm backup.sealed
+kept 3 backup
+writes="with the inputs in variables:"
+echo 'format = 1' > my.vectors
+pasted 0 VECTOR-FILES "$writes"
+[ "$("$prefix/bin/aeadkit" check my.vectors)" = "records 1" ] || { echo "the script of VECTOR-FILES.md writes no record" >&2; exit 1; }
+cp my.vectors earlier
+(key=00 && pasted 2 VECTOR-FILES "$writes")
+cmp my.vectors earlier
+# Six records agree, and a seventh does not.
+lines="no such record, the status is 1:"
+reports='of `check`:'
+wrapped="suite = aes-128-wrap
+key = 000102030405060708090a0b0c0d0e0f
+sealed = 1fa68b0a8112b447aef34bd8fb5a7b829d3e862371d2cfe5"
+{ echo 'format = 1'; for i in 1 2 3 4 5 6; do echo "$wrapped"; echo 'text = 00112233445566778899aabbccddeeff'; done; } > FILE
+pasted 1 VECTOR-FILES "$lines"
+prints ''
+pasted 0 VECTOR-FILES "$reports"
+prints 'every record agrees'
+{ echo; echo "$wrapped"; echo invalid; } >> FILE
+pasted 0 VECTOR-FILES "$lines"
+prints "$(echo "$wrapped" | awk '{ print NR + 26 ": " $0 }'; echo '30: invalid')"
+pasted 1 VECTOR-FILES "$reports"
+prints 'records 7
+bad 7'
+echo x >> FILE
+pasted 1 VECTOR-FILES "$reports"
+prints 'there is no report, for the reason that aeadkit gave'
+rm FILE
+pasted 3 VECTOR-FILES "$reports"
+# The examples print what stands below them.
+block COMMAND '## Examples' | awk '
+    /^\$ / || more { more = /\\$/; sub(/^\$ /, ""); print > "commands"; next }
+    { print > "answers" }
+'
+PATH=$prefix/bin:$PATH sh -e commands > printed
+cmp answers printed
+cd "$room"
+echo "ok: the scripts and examples of COMMAND.md and VECTOR-FILES.md, with the status of the step that fails"
 
 # The two builds of the program say the same version, and seal and open a file to the same bytes. bin has one of them.
 builds=$prefix/libexec/aeadkit
