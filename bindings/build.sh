@@ -1,6 +1,7 @@
 #!/bin/sh
 # Proves the library and the program, and lays them out with their headers, pages and packages.
 set -eu
+unset CDPATH
 whole=yes
 choice=
 usable=yes

@@ -2,13 +2,15 @@
 # Compares the documents with their files, looks at the library's names, builds and runs the examples over it, and installs each package
 # in a fresh folder.
 set -eu
+unset CDPATH
 build=no
 [ "${1:-}" != --build ] || { build=yes; shift; }
 if [ $# != 1 ]; then
     echo "usage: check.sh [--build] PREFIX
   PREFIX    what build.sh laid out, whole or with --library
   --build   the library is laid out there first, if cc, nm and objcopy are there to build it
-It prints a line for each language, 'ok: ..', or 'left out: ..' if its compiler or interpreter is not there." >&2
+It prints a line for each language, 'ok: ..', or 'left out: ..' if its compiler or interpreter is not there, and the same for
+the program. It refuses a PREFIX whose header is not that of the repository." >&2
     exit 2
 fi
 # What is checked is the library of PREFIX, whatever library or package the caller's environment names.
@@ -20,9 +22,11 @@ cd "$(dirname "$0")"
 . ./copy.sh
 room=$(mktemp -d)
 trap 'rm -rf "$room"' EXIT
-./quotations.sh ..
-./links.sh ..
-./believe.sh ..
+# A script finds its folder and its repository whatever CDPATH says, which leads nowhere here.
+mkdir -p "$room/elsewhere/bindings"
+for script in quotations links believe; do
+    (cd .. && CDPATH=$room/elsewhere "bindings/$script.sh")
+done
 ./published.sh .. "$prefix/bin/aeadkit"
 if [ $build = yes ]; then
     for tool in cc nm objcopy; do
@@ -34,6 +38,10 @@ if [ $build = yes ]; then
     ./build.sh --library .. "$prefix"
 fi
 version=$(version_of ..)
+filled include/aeadkit.h "$version" | cmp -s - "$prefix/include/aeadkit.h" || {
+    echo "$prefix/include/aeadkit.h is not the header of this repository: lay out the library there first" >&2
+    exit 1
+}
 warnings="-Wall -Wextra -Werror -pedantic"
 sanitizers="-fsanitize=address,undefined -fno-sanitize-recover=all"
 
@@ -45,16 +53,20 @@ makes() {
 }
 echo 'int main(void) { return 0; }' > "$room/probe.c"
 
-# Each name is that of this major version, so that another one may live in the same process.
+# Each name is that of this major version, so that another one may live in the same process. So it is in the build for AVX2, if
+# that is laid out.
 node=AEADKIT_${version%%.*}
-exported=$(nm -D --defined-only "$out/libaeadkit.so" | awk -v node="$node" '$3 != node { print $3 }' | sort | tr '\n' ' ')
-wanted=$(grep -oE 'aeadkit_[a-z_]+' exports.map | sed "s/\$/@@$node/" | sort | tr '\n' ' ')
-[ "$exported" = "$wanted" ] || { echo "the library exports $exported and not $wanted" >&2; exit 1; }
-called=$(nm -D --undefined-only "$out/libaeadkit.so" | awk '$1 == "U" { print $2 }' \
-    | grep -vE '^(mem(cpy|move|set|cmp)|bcmp)(@|$)' || true)
-[ -z "$called" ] || { echo "the library calls $called" >&2; exit 1; }
 soname=libaeadkit.so.${version%%.*}
-objdump -p "$out/libaeadkit.so" | grep -q "SONAME *$soname\$" || { echo "the library is not named $soname" >&2; exit 1; }
+exported=$(grep -oE 'aeadkit_[a-z_]+' exports.map | sort | tr '\n' ' ')
+for library in "$out/libaeadkit.so" "$out/glibc-hwcaps/x86-64-v3/libaeadkit.so"; do
+    [ -e "$library" ] || [ "$library" = "$out/libaeadkit.so" ] || continue
+    named=$(nm -D --defined-only "$library" | awk -v node="$node" '$3 != node { print $3 }' | sort | tr '\n' ' ')
+    wanted=$(for name in $exported; do echo "$name@@$node"; done | sort | tr '\n' ' ')
+    [ "$named" = "$wanted" ] || { echo "$library exports $named and not $wanted" >&2; exit 1; }
+    called=$(nm -D --undefined-only "$library" | awk '$1 == "U" { print $2 }' | grep -vE '^(mem(cpy|move|set|cmp)|bcmp)(@|$)' || true)
+    [ -z "$called" ] || { echo "$library calls $called" >&2; exit 1; }
+    objdump -p "$library" | grep -q "SONAME *$soname\$" || { echo "$library is not named $soname" >&2; exit 1; }
+done
 # The archive has these names and that of the version node, and no others. They are hidden from whoever does not link it.
 wanted=$(grep -oE "aeadkit_[a-z_]+|$node" exports.map | sort | sed 's/$/ HIDDEN/')
 for archive in "$out/libaeadkit.a" "$out/x86-64-v3/libaeadkit.a"; do
@@ -62,7 +74,7 @@ for archive in "$out/libaeadkit.a" "$out/x86-64-v3/libaeadkit.a"; do
     named=$(readelf -sW "$archive" | awk '($5 == "GLOBAL" || $5 == "WEAK") && $7 != "UND" { print $8, $6 }' | sort)
     [ "$named" = "$wanted" ] || { echo "$archive has the names $named" >&2; exit 1; }
 done
-echo "ok: $soname exports, as names of $node, $(echo "$exported" | sed "s/@@$node//g")"
+echo "ok: $soname exports, as names of $node, $exported"
 
 if makes "$room/probe.c" cc; then
     cc -std=c11 -O2 $warnings $include c/calls.c "$out/libaeadkit.a" -o "$room/c"
@@ -88,7 +100,8 @@ if makes "$room/probe.c" cc; then
         cc $include "$room/version.c" "$file" -Wl,-rpath,"$(dirname "$file")" -o "$room/version"
         "$room/version" || { echo "$build is not of version $version" >&2; exit 1; }
     done
-    # So build.sh removes the builds that it does not make again before it builds anything. This is shown by an rt that fails.
+    # So build.sh removes the builds that it does not make again before it builds anything. This is shown by an rt that fails. Here
+    # too CDPATH leads nowhere.
     mkdir -p "$room/stub" "$room/again/lib/glibc-hwcaps/x86-64-v3" "$room/again/lib/x86-64-v3"
     printf '#!/bin/sh\nexit 1\n' > "$room/stub/rt"
     chmod +x "$room/stub/rt"
@@ -100,7 +113,8 @@ if makes "$room/probe.c" cc; then
     for name in $(sed -E 's/[ :].*//' ../crates.txt); do
         mkdir -p "$room/again/.aeadkit/crates/$name/out"
     done
-    ! AEADKIT_WORK= PATH=$room/stub:$PATH ./build.sh --library .. "$room/again" > "$room/log" 2>&1
+    ! (cd .. && CDPATH=$room/elsewhere AEADKIT_WORK= PATH=$room/stub:$PATH bindings/build.sh --library . "$room/again") \
+        > "$room/log" 2>&1
     left=$(find "$room/again/lib" -name 'libaeadkit.*' ! -name "libaeadkit.so.$((${version%%.*} - 1))*" | wc -l)
     [ "$left $(find "$room/again/lib" -name 'libaeadkit.*' | wc -l)" = "0 2" ] \
         || { echo "build.sh --library leaves an earlier build for AVX2, or removes one of another major version" >&2; exit 1; }
@@ -142,6 +156,8 @@ fi
 ./rust-check.sh "$room/laid"
 if [ -e "$prefix/share/aeadkit/javascript" ]; then
     ./wasm-check.sh "$prefix"
+else
+    echo "left out: JavaScript, whose package is not in PREFIX"
 fi
 if [ -e "$prefix/bin/aeadkit" ]; then
     [ "$("$prefix/bin/aeadkit" --version)" = "aeadkit $version" ]
@@ -157,4 +173,6 @@ if [ -e "$prefix/bin/aeadkit" ]; then
     done
     echo "ok: aeadkit $version, its man page, and its completions for$shells"
     ./program-check.sh "$prefix"
+else
+    echo "left out: the program, which is not in PREFIX"
 fi
