@@ -221,7 +221,7 @@ cp my.vectors earlier
 (key=00 && pasted 2 VECTOR-FILES "$writes")
 cmp my.vectors earlier
 # Six records agree, and a seventh does not.
-lines="no such record, the status is 1:"
+lines="the status is 1:"
 reports='of `check`:'
 wrapped="suite = aes-128-wrap
 key = 000102030405060708090a0b0c0d0e0f
