@@ -186,6 +186,13 @@ not_opened "$room/key" label "$room/no-file"
 wanted="usage"
 not_opened "$room/key" label
 does 1 "$room/file" seal "$room/key" label "$folder/opened" "$room/no-folder/sealed"
+# a folder is not an empty text, also where its length is 0, as in /proc
+for other in "$room" /proc; do
+    [ -d "$other" ] || continue
+    does 1 "$room/file" seal "$room/key" label "$other" "$folder/of-folder"
+    does 1 "$room/file" open "$room/key" label "$other" "$folder/of-folder"
+    [ ! -e "$folder/of-folder" ] || { echo "the folder $other is sealed as a file" >&2; exit 1; }
+done
 # a pipe, a link or a device stays what it is
 mkfifo "$room/pipe"
 ln -s opened "$folder/link"
