@@ -42,6 +42,15 @@ for compiler in c++ g++ clang++; do
         done
     fi
 done
+# The header is refused for targets whose programs would be linked with the library and compute wrong results.
+for target in -D_WIN32 -D__CYGWIN__ -D__UEFI__ -mno-sse -mno-sse2 -mgeneral-regs-only; do
+    for compiler in cc gcc clang c++; do
+        "$compiler" -fsyntax-only $target "$room/empty.c" > "$room/log" 2>&1 || continue
+        ! "$compiler" -I"$prefix/include" -fsyntax-only $target "$room/header.c" > "$room/log" 2>&1 \
+            || { echo "$compiler $target takes the header" >&2; exit 1; }
+        grep -q 'error.*System V calling convention' "$room/log" || { cat "$room/log" >&2; exit 1; }
+    done
+done
 # The compiler warns about a status that is ignored, whichever call returns it.
 sed 's|/\*.*\*/||; /\/\*/,/\*\//d' "$prefix/include/aeadkit.h" | tr '\n' ' ' | tr ';' '\n' \
     | sed -nE 's/.*uint32_t (aeadkit_[a-z_]*\(.*\))$/\1;/p' | sed -E 's/([(,])[^,()]+/\10/g' \
