@@ -16,6 +16,7 @@ strict="-std=c11 -O2 $warnings"
 
 # The header is plain C from C89 on, and C++, for each compiler that is there with the headers of C; the examples are C99.
 echo '#include <stdio.h>' > "$room/empty.c"
+echo 'int main(void) { return 0; }' > "$room/probe.c"
 echo '#include "aeadkit.h"' > "$room/header.c"
 echo 'int main(void) { return (int)(aeadkit_version() >> 31); }' >> "$room/header.c"
 plain="$warnings -Wcast-qual -Wconversion -Wstrict-prototypes"
@@ -41,6 +42,15 @@ for compiler in c++ g++ clang++; do
             "$compiler" -x c++ -std=c++17 $warnings -fsyntax-only c/$example.c
         done
     fi
+done
+# The header is refused for targets whose programs would be linked with the library and compute wrong results.
+for target in -D_WIN32 -D__CYGWIN__ -D__UEFI__ -mno-sse -mno-sse2 -mgeneral-regs-only; do
+    for compiler in cc gcc clang c++; do
+        "$compiler" -fsyntax-only $target "$room/empty.c" > "$room/log" 2>&1 || continue
+        ! "$compiler" -I"$prefix/include" -fsyntax-only $target "$room/header.c" > "$room/log" 2>&1 \
+            || { echo "$compiler $target takes the header" >&2; exit 1; }
+        grep -q 'error.*System V calling convention' "$room/log" || { cat "$room/log" >&2; exit 1; }
+    done
 done
 # The compiler warns about a status that is ignored, whichever call returns it.
 sed 's|/\*.*\*/||; /\/\*/,/\*\//d' "$prefix/include/aeadkit.h" | tr '\n' ' ' | tr ';' '\n' \
@@ -68,6 +78,17 @@ cc $strict -pthread c/stack.c "$out/libaeadkit.a" -Wl,-z,now -o "$room/stack"
 cc $strict -pthread c/stack.c -L"$out" -laeadkit -Wl,-z,now -Wl,-rpath,"$out" -o "$room/stack-shared"
 "$room/stack-shared" || { echo "a call of the shared library takes more stack than aeadkit.h says" >&2; exit 1; }
 echo "ok: no call takes more stack than aeadkit.h says"
+
+# Programs that are linked in other ways: with each kind of path to the shared library, and optimized as a whole over the archive.
+linked() {
+    cc $strict c/calls.c "$@" -o "$room/linked"
+    (unset LD_LIBRARY_PATH && "$room/linked") > "$room/log" || { cat "$room/log" >&2; echo "linked with $*" >&2; exit 1; }
+}
+for tags in enable disable; do
+    linked -L"$out" -laeadkit -Wl,--$tags-new-dtags -Wl,-rpath,"$out"
+done
+! cc -flto "$room/probe.c" -o "$room/probe" > "$room/log" 2>&1 || linked -flto "$out/libaeadkit.a"
+echo "ok: programs with each kind of path to the library, and one that is optimized as a whole"
 
 # Two versions in one process: a caller of each gets its own, whichever is loaded first.
 echo 'AEADKIT_2 { global: aeadkit_sealer_size; local: *; };' > "$room/other.map"
@@ -97,20 +118,32 @@ for order in "-lby_the_other -lby_this" "-lby_this -lby_the_other"; do
     LD_LIBRARY_PATH=$room "$room/versions" \
         || { echo "of two archives in one process ($order) a caller gets the wrong one" >&2; exit 1; }
 done
-# Two versions in one program, without a library: a caller is joined with its archive, whose hidden names are then made local.
+# Two versions in one program, without a shared library: a caller is joined with its archive, whose hidden names are then made
+# local. The joined object is linked, and then a static library of it. gcc joins also a caller that is compiled with -flto.
 cc -c -DCALLER=by_the_other c/versions.c -o "$room/by_the_other.o"
-ld -r "$room/by_this.o" "$out/libaeadkit.a" -o "$room/joined.o"
-objcopy --localize-hidden "$room/joined.o"
+grep -q -e "cc -r -nostdlib CALLER.o libaeadkit.a -o JOINED.o" README.md
 grep -q -e "objcopy --localize-hidden" README.md
-for order in "$room/joined.o $room/by_the_other.o" "$room/by_the_other.o $room/joined.o"; do
-    cc c/versions.c $order "$room/other/libaeadkit.a" -o "$room/versions"
-    "$room/versions" || { echo "of two archives in one program ($order) a caller gets the wrong one" >&2; exit 1; }
+join() {
+    cc $1 -c -DCALLER=by_this c/versions.c -o "$room/by_this.o" \
+        && cc -r -nostdlib "$room/by_this.o" "$out/libaeadkit.a" -o "$room/joined.o"
+}
+lto=-flto
+join $lto > "$room/log" 2>&1 || lto=
+for way in "" $lto; do
+    join "$way" > "$room/log" 2>&1 || { cat "$room/log" >&2; exit 1; }
+    objcopy --localize-hidden "$room/joined.o"
+    rm -f "$room/libjoined.a"
+    ar rc "$room/libjoined.a" "$room/joined.o"
+    other=$room/by_the_other.o
+    for order in "$room/joined.o $other" "$other $room/joined.o" "$other $room/libjoined.a" "$room/libjoined.a $other"; do
+        cc c/versions.c $order "$room/other/libaeadkit.a" -o "$room/versions"
+        "$room/versions" || { echo "of two archives in one program ($way $order) a caller gets the wrong one" >&2; exit 1; }
+    done
 done
 echo "ok: two versions of the library in one process, shared and as archives"
 
 export ASAN_OPTIONS=detect_leaks=0
 by="cc $strict -fsanitize=address,undefined -fno-sanitize-recover=all"
-echo 'int main(void) { return 0; }' > "$room/probe.c"
 if ! { $by "$room/probe.c" -o "$room/probe" && "$room/probe"; } > "$room/log" 2>&1; then
     by="cc $strict"
 fi
@@ -186,6 +219,13 @@ not_opened "$room/key" label "$room/no-file"
 wanted="usage"
 not_opened "$room/key" label
 does 1 "$room/file" seal "$room/key" label "$folder/opened" "$room/no-folder/sealed"
+# a folder is not an empty text, also where its length is 0, as in /proc
+for other in "$room" /proc; do
+    [ -d "$other" ] || continue
+    does 1 "$room/file" seal "$room/key" label "$other" "$folder/of-folder"
+    does 1 "$room/file" open "$room/key" label "$other" "$folder/of-folder"
+    [ ! -e "$folder/of-folder" ] || { echo "the folder $other is sealed as a file" >&2; exit 1; }
+done
 # a pipe, a link or a device stays what it is
 mkfifo "$room/pipe"
 ln -s opened "$folder/link"
@@ -288,8 +328,34 @@ if [ -e /dev/full ]; then
             [ $status = 1 ] && [ ! -s "$room/fault" ] \
                 || { echo "$example writes nothing and ends with $status" >&2; cat "$room/fault" >&2; exit 1; }
         done
+        status=0
+        ASAN_OPTIONS=$ASAN_OPTIONS:verify_asan_link_order=0 $through "$room/wrap" wrap "$room/user-key" < "$room/text" > /dev/full \
+            2> "$room/fault" || status=$?
+        [ $status = 1 ] && grep -q "cannot be written" "$room/fault" \
+            || { echo "wrap writes nothing and ends with $status" >&2; cat "$room/fault" >&2; exit 1; }
     done
 fi
+# So is one that meets the limit of a file's size, whether its signal ends the program or is ignored: limited BLOCKS IN WORD..
+limited() {
+    blocks=$1
+    in=$2
+    shift 2
+    for signal in - ""; do
+        status=0
+        {
+            (ulimit -c 0 && ulimit -f "$blocks" && trap "$signal" XFSZ && exec "$@") < "$in" > "$room/limited" || status=$?
+        } 2> /dev/null # the shell's own line about the signal too
+        [ $status != 0 ] || { echo "$* cannot write all and ends with 0" >&2; exit 1; }
+    done
+}
+limited 0 /dev/null "$room/message"
+limited 0 /dev/null "$room/threads"
+limited 1 "$room/text" "$room/wrap" wrap "$room/user-key"
+cp "$folder/sealed" "$folder/before"
+for way in seal open; do
+    limited 64 /dev/null "$room/file" $way "$room/key" label "$folder/before" "$folder/sealed"
+done
+cmp "$folder/before" "$folder/sealed"
 echo "ok: the examples, whole and damaged: messages, files, wrappings and threads"
 
 # The backup: want STATUS WORD.. of backup, from in to out.
@@ -367,5 +433,10 @@ if [ -e /dev/full ]; then
     status=0
     "$room/backup" open "$room/key" label < "$room/sealed" > /dev/full 2> "$room/fault" || status=$?
     [ $status = 3 ]
+    status=0
+    "$room/backup" seal "$room/key" label < "$room/text" > /dev/full 2> "$room/fault" || status=$?
+    [ $status = 3 ]
 fi
+limited 64 "$room/text" "$room/backup" seal "$room/key" label
+limited 64 "$room/sealed" "$room/backup" open "$room/key" label
 echo "ok: backups in segments, whole, damaged, cut and exchanged"

@@ -170,11 +170,24 @@ chmod +x "$room/pkg-config"
 (export PKG_CONFIG="$room/pkg-config" PKG_CONFIG_LIBDIR="$room/newer/lib" && in_crate other run)
 (export PKG_CONFIG="$room/pkg-config" && not_linked PKG_CONFIG_LIBDIR="$room/newest/lib" AEADKIT_3)
 
+# A search path of the user's has another archive, whose calls return 0 and do nothing. The one that the build chose is linked.
+mkdir "$room/false"
+for name in AEADKIT_3 $(grep -oE 'aeadkit_[a-z_]+' exports.map); do
+    echo "int $name(void) { return 0; }"
+done > "$room/false.c"
+cc -c "$room/false.c" -o "$room/false.o"
+ar rc "$room/false/libaeadkit.a" "$room/false.o"
+(export RUSTFLAGS="$RUSTFLAGS -L native=$room/false" CARGO_TARGET_DIR="$room/falsely" && in_crate user run)
+mkdir "$room/user/.cargo"
+printf '[build]\nrustflags = ["-L", "native=%s"]\n' "$room/false" > "$room/user/.cargo/config.toml"
+(unset RUSTFLAGS && export CARGO_TARGET_DIR="$room/configured" && in_crate user run)
+rm -r "$room/user/.cargo"
+
 # A program for another processor or calling convention, or for a kernel, whose interrupts change what the archive computes.
 rustc --edition 2024 -D warnings "$prefix/share/aeadkit/rust/build.rs" -o "$room/build"
 built_for() {
     CARGO_CFG_TARGET_ARCH=$1 CARGO_CFG_TARGET_POINTER_WIDTH=$2 CARGO_CFG_TARGET_OS=$3 CARGO_CFG_TARGET_FEATURE=$4 \
-        CARGO_MANIFEST_DIR=/ AEADKIT_PREFIX=$prefix CARGO_PKG_VERSION_MAJOR=3 "$room/build" > "$room/log"
+        CARGO_MANIFEST_DIR=/ AEADKIT_PREFIX=$prefix CARGO_PKG_VERSION_MAJOR=3 OUT_DIR=$room "$room/build" > "$room/log"
     ! grep '^cargo::error=' "$room/log"
 }
 built_for x86_64 64 linux fxsr,sse,sse2
@@ -217,7 +230,10 @@ in_crate bare run --release
 
 # A program for processors with AVX2 has the library's build for these, and no other program has it.
 linked() {
-    grep -q '^cargo::rustc-link-search=.*/x86-64-v3$' "$room/$1/debug/build/aeadkit-"*/output
+    for copy in "$room/$1/debug/build/aeadkit-"*/out/libaeadkit_of_this_build.a; do
+        ! cmp -s "$copy" "$prefix/lib/x86-64-v3/libaeadkit.a" || return 0
+    done
+    return 1
 }
 ! linked target || { echo "the build for AVX2 is linked for any processor" >&2; exit 1; }
 if [ ! -e "$prefix/lib/x86-64-v3/libaeadkit.a" ]; then

@@ -57,6 +57,7 @@ int main(int count, char **words) {
             need(!last || fwrite(piece, 1, n, out) == n, NULL);
         }
         need(!sealing || fgetc(in) == EOF, "IN is longer than it was, or has no length"); /* the rest would not be sealed */
+        need(!ferror(in), NULL); /* a folder has no bytes to read, and may have the length 0: that is no empty text */
         done(sealing ? aeadkit_sealer_finish(&s, tag) : last ? aeadkit_opener_finish(&o) : aeadkit_opener_begin_second(&o));
     }
     need((!sealing || fwrite(tag, 1, TAG, out) == TAG) && !fflush(out) && !fsync(file) && !fclose(out)

@@ -9,7 +9,7 @@
 
 use std::path::{Path, PathBuf};
 use std::process::Command;
-use std::{env, fs};
+use std::{env, fs, io};
 
 /// The features that the archive for AVX2 needs and the default archive does not.
 const FAST: [&str; 7] = ["avx2", "bmi1", "bmi2", "f16c", "fma", "lzcnt", "movbe"];
@@ -58,10 +58,20 @@ fn other_version(lib: &Path) -> Option<String> {
     (major != "0" && version.split('.').next() != Some(&major)).then(|| version.into())
 }
 
-/// Whether the archive in a folder lacks the name that those of this major version have.
-fn lacks_name(lib: &Path) -> bool {
+/// Whether an archive lacks the name that those of this major version have.
+fn lacks_name(archive: &[u8]) -> bool {
     let name = b"AEADKIT_3\0";
-    fs::read(lib.join("libaeadkit.a")).is_ok_and(|bytes| !bytes.windows(name.len()).any(|part| part == name))
+    !archive.windows(name.len()).any(|part| part == name)
+}
+
+/// Links an archive that was found to be one of this version, by a copy under a name of its own. By its own name and folder another
+/// libaeadkit.a could come in its place, since a `-L` of RUSTFLAGS or of cargo's configuration may stand before that folder.
+fn link(archive: &[u8]) -> io::Result<()> {
+    let own = PathBuf::from(env::var_os("OUT_DIR").expect("cargo sets OUT_DIR"));
+    fs::write(own.join("libaeadkit_of_this_build.a"), archive)?;
+    println!("cargo::rustc-link-search=native={}", own.display());
+    println!("cargo::rustc-link-lib=static=aeadkit_of_this_build");
+    Ok(())
 }
 
 fn main() {
@@ -88,15 +98,16 @@ fn main() {
         return;
     }
     let fast = lib.as_ref().map(|lib| lib.join("x86-64-v3")).filter(|fast| fast.join("libaeadkit.a").exists());
-    match fast.filter(|_| is_fast()).or(lib) {
-        Some(lib) if lacks_name(&lib) => {
+    let Some(lib) = fast.filter(|_| is_fast()).or(lib) else {
+        println!("cargo::error=libaeadkit.a is not found: set AEADKIT_PREFIX to what build.sh laid out");
+        return;
+    };
+    println!("cargo::rerun-if-changed={}", lib.join("libaeadkit.a").display());
+    match fs::read(lib.join("libaeadkit.a")) {
+        Ok(archive) if lacks_name(&archive) => {
             println!("cargo::error=libaeadkit.a in {} lacks AEADKIT_3, so it is of another major version", lib.display());
         }
-        Some(lib) => {
-            println!("cargo::rerun-if-changed={}", lib.join("libaeadkit.a").display());
-            println!("cargo::rustc-link-search=native={}", lib.display());
-            println!("cargo::rustc-link-lib=static=aeadkit");
-        }
-        None => println!("cargo::error=libaeadkit.a is not found: set AEADKIT_PREFIX to what build.sh laid out"),
+        Ok(archive) => link(&archive).expect("cargo's folder for this build can be written"),
+        Err(error) => println!("cargo::error=libaeadkit.a in {} cannot be read: {error}", lib.display()),
     }
 }

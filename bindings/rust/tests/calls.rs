@@ -254,6 +254,98 @@ fn a_key_is_copied_whole() {
     }
 }
 
+/// A sealing or an opening in pieces goes on when the key that it was begun under is gone and another has come.
+#[test]
+fn a_key_is_dropped_before_its_pieces() {
+    for suite in Suite::ALL {
+        let key = Box::new(Key::new(suite, &key_of(suite)).unwrap());
+        let sealed = key.seal_to_vec(&NONCE, &text_of(100), Aad(b"aad")).unwrap();
+        let (body, tag) = sealed.split_last_chunk().unwrap();
+        let mut opener = key.opener(&NONCE, tag, Aad(b"aad")).unwrap();
+        let (sealer, siv_sealer) = (key.sealer(&NONCE, Aad(b"aad")), key.siv_sealer(&NONCE, Aad(b"aad")));
+        drop(key);
+        let other = Box::new(Key::new(suite, &vec![0xee; suite.key_bytes()]).unwrap());
+        let mut piece = text_of(100);
+        if let Ok(mut sealer) = sealer {
+            sealer.update(&mut piece).unwrap();
+            assert_eq!((&piece[..], *sealer.finish()), (body, *tag));
+        } else {
+            let mut sealer = siv_sealer.unwrap();
+            sealer.absorb(&piece).unwrap();
+            let (made, mut writer) = sealer.begin_second();
+            writer.update(&mut piece).unwrap();
+            writer.finish().unwrap();
+            assert_eq!((&piece[..], *made), (body, *tag));
+        }
+        opener.check(body).unwrap();
+        let mut checked = opener.begin_second().unwrap();
+        checked.update(&mut piece).unwrap();
+        checked.finish().unwrap();
+        assert_eq!(piece, text_of(100));
+        assert_eq!(other.open_to_vec(&NONCE, &sealed, Aad(b"aad")), Err(Fault::TagMismatch));
+    }
+}
+
+unsafe extern "C" {
+    fn mmap(place: *mut u8, length: usize, protection: i32, flags: i32, file: i32, offset: i64) -> *mut u8;
+}
+
+/// Zeros past each limit that memory can hold, in pages that no call touches; or nothing if there are not so many addresses.
+fn vast() -> Option<&'static mut [u8]> {
+    let (length, readable_and_writable, private_without_file_or_reserve) = ((1 << 38) + TAG_BYTES, 3, 0x4022);
+    // SAFETY: unless it is refused with -1, the new memory has this length, holds zeros, and is nobody else's.
+    unsafe {
+        let start = mmap(std::ptr::null_mut(), length, readable_and_writable, private_without_file_or_reserve, -1, 0);
+        (start.addr() != usize::MAX).then(|| std::slice::from_raw_parts_mut(start, length))
+    }
+}
+
+#[test]
+fn what_is_too_long_is_refused() {
+    let Some(vast) = vast() else { return };
+    for suite in Suite::ALL {
+        let (bytes, key, past) = (key_of(suite), Key::new(suite, &key_of(suite)).unwrap(), suite.text_limit() as usize + 1);
+        let (mut piece, none, long) = (text_of(100), Aad::empty(), Fault::TextTooLong);
+        let sealed = key.seal_to_vec(&NONCE, &piece, none).unwrap();
+        let tag = sealed.last_chunk().unwrap();
+        assert_eq!(seal_in_place(suite, &bytes, &NONCE, &mut vast[..past], none), Err(long));
+        assert_eq!(open_in_place(suite, &bytes, &NONCE, &mut vast[..past], tag, none), Err(long));
+        assert_eq!(key.seal_in_place(&NONCE, &mut vast[..past], none), Err(long));
+        assert_eq!(key.open_in_place(&NONCE, &mut vast[..past], tag, none), Err(long));
+        assert_eq!(seal(suite, &bytes, &NONCE, &vast[..past], &mut [], none), Err(long));
+        assert_eq!(open(suite, &bytes, &NONCE, &vast[..past + TAG_BYTES], &mut [], none), Err(long));
+        assert_eq!(key.seal(&NONCE, &vast[..past], &mut [], none), Err(long));
+        assert_eq!(key.open(&NONCE, &vast[..past + TAG_BYTES], &mut [], none), Err(long));
+        // in pieces a shorter one may follow
+        let mut opener = key.opener(&NONCE, tag, none).unwrap();
+        assert_eq!(opener.check(&vast[..past]), Err(long));
+        opener.check(&sealed[..100]).unwrap();
+        assert!(opener.begin_second().is_ok());
+        if let Ok(mut sealer) = key.sealer(&NONCE, none) {
+            assert_eq!(sealer.update(&mut vast[..past]), Err(long));
+            sealer.update(&mut piece).unwrap();
+            assert_eq!([&piece[..], &*sealer.finish()].concat(), sealed);
+        } else {
+            let mut sealer = key.siv_sealer(&NONCE, none).unwrap();
+            assert_eq!(sealer.absorb(&vast[..past]), Err(long));
+            sealer.absorb(&piece).unwrap();
+            assert_eq!(*sealer.begin_second().0, *tag);
+        }
+        if suite.aad_limit() < vast.len() as u64 {
+            let (aad, long) = (Aad(&vast[..suite.aad_limit() as usize + 1]), Fault::AadTooLong);
+            assert_eq!(seal_to_vec(suite, &bytes, &NONCE, &piece, aad), Err(long));
+            assert_eq!(key.open_to_vec(&NONCE, &sealed, aad), Err(long));
+            assert_eq!(SivSealer::new(suite, &bytes, &NONCE, aad).err(), Some(long));
+            assert_eq!(key.siv_sealer(&NONCE, aad).err(), Some(long));
+            assert_eq!(Opener::new(suite, &bytes, &NONCE, tag, aad).err(), Some(long));
+            assert_eq!(key.opener(&NONCE, tag, aad).err(), Some(long));
+        }
+    }
+    assert_eq!(wrap_padded(WrappingKey(&[3; 16]), &vast[..1 << 32], &mut []), Err(Fault::TextTooLong));
+    let wrapped = &vast[..(1 << 32) + 16];
+    assert_eq!(unwrap_padded(WrappingKey(&[3; 16]), wrapped, &mut []), Err(Fault::TextTooLong));
+}
+
 /// The states in pieces leave zeros where they are dropped.
 #[test]
 fn what_is_dropped_is_wiped() {
