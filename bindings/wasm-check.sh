@@ -13,7 +13,9 @@ if ! node --version > "$room/log" 2>&1; then
     echo "left out: JavaScript, no node"
     exit 0
 fi
-cp wasm/example.mjs wasm/calls.mjs wasm/saved.mjs "$room/"
+cp wasm/example.mjs wasm/calls.mjs wasm/saved.mjs ../docs/published.vectors "$room/"
+# Otherwise npm would install into a folder above that has a package.json, whose "type" would count here too.
+echo '{ "private": true }' > "$room/package.json"
 by=npm
 if npm --version > "$room/log" 2>&1; then
     (cd "$room" && npm pack --silent "$package" && npm install --silent --offline --no-audit --no-fund ./aeadkit-*.tgz) \

@@ -142,6 +142,24 @@ for (const call of [
 assert.throws(() => aead.suiteNamed(2), TypeError);
 assert.match(aead.version, /^3\.\d+\.\d+$/);
 
+// Each suite's constant and name are those of its published vectors, and the types give it the same number.
+const published = readFileSync(new URL("published.vectors", import.meta.url), "utf8").split("\n\n")
+    .map((record) => Object.fromEntries(Array.from(record.matchAll(/^(\w+) = ?(.*)$/gm), ([, name, value]) => [name, value])))
+    .filter((record) => record.nonce !== undefined);
+const constantOf = (name) => name.toUpperCase().replaceAll("-", "_");
+for (const record of published) {
+    const number = Suite[constantOf(record.suite)];
+    const [key, nonce, aad, text, sealed] = ["key", "nonce", "aad", "text", "sealed"]
+        .map((name) => new Uint8Array(Buffer.from(record[name], "hex")));
+    assert.equal(aead.suiteNamed(record.suite), number);
+    assert.deepEqual(aead.seal(number, key, nonce, text, { aad }), sealed);
+    assert.deepEqual(new Key(aead, number, key).open(nonce, sealed, { aad }), text);
+}
+assert.deepEqual(new Set(published.map((record) => constantOf(record.suite))), new Set(Object.keys(Suite)));
+const types = readFileSync(new URL("aeadkit.d.mts", import.meta.resolve("aeadkit/node")), "utf8");
+assert.deepEqual(Object.fromEntries(Array.from(types.matchAll(/readonly (\w+): (\d+);/g), ([, name, number]) => [name, +number])),
+    { ...Suite });
+
 // Each call that takes associated data, with what stands in the place of its options.
 const sealed = kept.seal(nonce, text, { aad });
 const named = [
