@@ -39,6 +39,5 @@ PATH=$room/kit/bin:$PATH
 proved "$room" capi lib "$@"
 grep -q simd128 "$room/crates/capi/out/capi.wasm" || { echo "capi.wasm has no simd128" >&2; exit 1; }
 cp "$room/crates/capi/out/capi.wasm" "$package/aeadkit.wasm"
-cp wasm/aeadkit.mjs wasm/aeadkit.d.mts wasm/node.mjs wasm/node.d.mts "$package/"
-filled wasm/package.json "$(version_of "$repository")" > "$package/package.json"
+javascript "$repository" "$package"
 ./wasm-check.sh "$prefix"
