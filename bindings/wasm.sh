@@ -12,11 +12,12 @@ repository=$(cd "$1" && pwd)
 mkdir -p "$2"
 prefix=$(cd "$2" && pwd)
 shift 2
-cd "$(dirname "$0")"
-. ./copy.sh
 room=${AEADKIT_WORK:-$prefix/.aeadkit}
 package=$prefix/share/aeadkit/javascript
 mkdir -p "$room" "$package"
+room=$(cd "$room" && pwd)
+cd "$(dirname "$0")"
+. ./copy.sh
 copy "$repository" "$room"
 sed -i "s/^capi staticlib:/capi wasm64:/" "$room/crates.txt"
 
