@@ -44,6 +44,7 @@ here=$(cd "$(dirname "$0")" && pwd)
 room=${AEADKIT_WORK:-$prefix/.aeadkit}
 version=$(version_of "$repository")
 mkdir -p "$room" "$prefix/include" "$prefix/lib/pkgconfig"
+room=$(cd "$room" && pwd)
 copy "$repository" "$room"
 
 # A build for AVX2 that an earlier run laid out, and that this run does not build again, would be loaded in place of this library.

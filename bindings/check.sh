@@ -137,7 +137,8 @@ else
     echo "left out: C++, no c++"
 fi
 
-# The packages: pip takes the wheel, or without pip its folder is read; rust-check.sh builds the crate.
+# The packages: pip takes the wheel, or without pip its folder is read; rust-check.sh builds the crate; the one for JavaScript is
+# laid out beside the module of PREFIX.
 mkdir "$room/laid"
 cp -a "$prefix/include" "$prefix/lib" "$room/laid/"
 ./packages.sh "$room/laid"
@@ -154,10 +155,14 @@ else
     echo "ok: Python (left out: pip, which is not there)"
 fi
 ./rust-check.sh "$room/laid"
-if [ -e "$prefix/share/aeadkit/javascript" ]; then
-    ./wasm-check.sh "$prefix"
+package=share/aeadkit/javascript
+if [ -e "$prefix/$package/aeadkit.wasm" ]; then
+    mkdir -p "$room/laid/$package"
+    cp "$prefix/$package/aeadkit.wasm" "$room/laid/$package/"
+    javascript .. "$room/laid/$package"
+    ./wasm-check.sh "$room/laid"
 else
-    echo "left out: JavaScript, whose package is not in PREFIX"
+    echo "left out: JavaScript, whose module is not in PREFIX"
 fi
 if [ -e "$prefix/bin/aeadkit" ]; then
     [ "$("$prefix/bin/aeadkit" --version)" = "aeadkit $version" ]

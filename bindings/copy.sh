@@ -10,6 +10,14 @@ filled() {
     sed "s/0\.0\.0/$2/" "$1"
 }
 
+# Lays the JavaScript package of a repository out in a folder, where its module is: javascript REPOSITORY FOLDER
+javascript() {
+    for name in aeadkit.mjs aeadkit.d.mts node.mjs node.d.mts; do
+        cp "$1/bindings/wasm/$name" "$2/"
+    done
+    filled "$1/bindings/wasm/package.json" "$(version_of "$1")" > "$2/package.json"
+}
+
 # Copies the crates that ROOM/crates.txt names from a repository: crates REPOSITORY ROOM
 # What earlier checks stored of a crate is copied too, if the room has nothing of that crate, so that it is not proved again.
 crates() {

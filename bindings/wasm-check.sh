@@ -13,7 +13,9 @@ if ! node --version > "$room/log" 2>&1; then
     echo "left out: JavaScript, no node"
     exit 0
 fi
-cp wasm/example.mjs wasm/calls.mjs wasm/saved.mjs "$room/"
+cp wasm/example.mjs wasm/calls.mjs wasm/saved.mjs ../docs/published.vectors "$room/"
+# Otherwise npm would install into a folder above that has a package.json, whose "type" would count here too.
+echo '{ "private": true }' > "$room/package.json"
 by=npm
 if npm --version > "$room/log" 2>&1; then
     (cd "$room" && npm pack --silent "$package" && npm install --silent --offline --no-audit --no-fund ./aeadkit-*.tgz) \
@@ -33,6 +35,11 @@ flag=--experimental-wasm-memory64
 if (cd "$room" && node -e 'import("aeadkit/node")' || ! node $flag -e '') > "$room/log" 2>&1; then
     flag=
 fi
+# The module has the version of the package: an older one may lack a call.
+said=$(cd "$room" && node $flag -e 'import("aeadkit/node").then(({ aead }) => console.log(aead.version))' 2> "$room/log") \
+    || { cat "$room/log" >&2; exit 1; }
+version=$(sed -n 's/^ *"version": "\(.*\)",$/\1/p' "$package/package.json")
+[ "$said" = "$version" ] || { echo "aeadkit.wasm is of version $said and not $version; wasm.sh builds it" >&2; exit 1; }
 for name in example calls saved; do
     (cd "$room" && node $flag $name.mjs) > "$room/log" 2>&1 || { cat "$room/log" >&2; exit 1; }
 done

@@ -12,11 +12,12 @@ repository=$(cd "$1" && pwd)
 mkdir -p "$2"
 prefix=$(cd "$2" && pwd)
 shift 2
-cd "$(dirname "$0")"
-. ./copy.sh
 room=${AEADKIT_WORK:-$prefix/.aeadkit}
 package=$prefix/share/aeadkit/javascript
 mkdir -p "$room" "$package"
+room=$(cd "$room" && pwd)
+cd "$(dirname "$0")"
+. ./copy.sh
 copy "$repository" "$room"
 sed -i "s/^capi staticlib:/capi wasm64:/" "$room/crates.txt"
 
@@ -39,6 +40,5 @@ PATH=$room/kit/bin:$PATH
 proved "$room" capi lib "$@"
 grep -q simd128 "$room/crates/capi/out/capi.wasm" || { echo "capi.wasm has no simd128" >&2; exit 1; }
 cp "$room/crates/capi/out/capi.wasm" "$package/aeadkit.wasm"
-cp wasm/aeadkit.mjs wasm/aeadkit.d.mts wasm/node.mjs wasm/node.d.mts "$package/"
-filled wasm/package.json "$(version_of "$repository")" > "$package/package.json"
+javascript "$repository" "$package"
 ./wasm-check.sh "$prefix"

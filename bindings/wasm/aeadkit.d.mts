@@ -51,8 +51,8 @@ export class NotBegun extends Refused { readonly fault: "NotBegun"; }
 export class NotSaved extends Refused { readonly fault: "NotSaved"; }
 
 /**
- * The options of a call: a plain object, its last argument. A call throws a `TypeError` if it has a key of another name, or an
- * `aad` that is not its own, as a Proxy may.
+ * The options of a call: a plain object, of any realm, its last argument. A call throws a `TypeError` if it has a key of another
+ * name, or an `aad` that is not its own, as a Proxy may.
  */
 export interface Options {
     /** The associated data, which is authenticated and not encrypted, like the header of a message. Left out, it is empty. */
@@ -61,7 +61,8 @@ export interface Options {
 
 /**
  * The calls of aeadkit.wasm that seal and open. The constructor takes the bytes of that file. It throws a `TypeError` if they are
- * those of another module, or of another major version, which may come from a cache.
+ * those of another module, or of another major version, which may come from a cache, and a `WebAssembly.CompileError` if the host
+ * cannot compile them, as one without memories that have 64-bit addresses.
  *
  * A call that throws has changed none of its arguments. Each result is a new array, and only the calls named InPlace change an
  * argument.
@@ -72,15 +73,19 @@ export interface Options {
  * as much as that needed.
  *
  * Here and in the classes below, a call throws a `TypeError`, before the faults that it names, if an argument is not a Uint8Array
- * where one is required, or if its options are not a plain object. So does each call that takes or returns bytes if more bytes or
- * associated data stand after its last argument, such as a last piece for `finish`. In version 2.0 the associated data stood
- * before the text or the tag, as a Uint8Array: such a call throws a `TypeError`.
+ * or an `Aead` where one is required, or if its options are not a plain object. So does each call that takes or returns bytes if
+ * associated data or anything that has a length stands after its last argument, such as a last piece or an encoding for `finish`.
+ * In version 2.0 the associated data stood before the text or the tag, as a Uint8Array: such a call throws a `TypeError`.
+ *
+ * The time of a call may depend on secrets: AES, and the hashes of AES-GCM and AES-GCM-SIV, look up tables by secret bytes. A call
+ * leaves zeros where its arguments and results stood in the module's memory, but not on the module's stack. The arrays that you
+ * pass or get are not wiped.
  */
 export class Aead {
     constructor(bytes: ArrayBuffer | ArrayBufferView);
 
     /**
-     * Returns the ciphertext and then the tag of 16 bytes.
+     * Returns the ciphertext, which is as long as the text, and then the tag of 16 bytes. The nonce is 12 bytes long.
      *
      * Never use a nonce twice under one key. If two texts are sealed with one nonce and key, ChaCha20-Poly1305 and AES-GCM give
      * away the XOR of the two texts, and enough to forge messages; AES-GCM-SIV gives away only whether the texts and the
@@ -91,7 +96,8 @@ export class Aead {
     seal(suite: Suite, key: Uint8Array, nonce: Uint8Array, text: Uint8Array, options?: Options): Uint8Array;
 
     /**
-     * Returns the text of what `seal` made, which is the ciphertext and then the tag.
+     * Returns the text of what `seal` made, which is the ciphertext and then the tag. The nonce and the associated data are those
+     * that it was sealed with.
      *
      * Throws the first of these that applies: `UnknownSuite`, `KeyLength`, `NonceLength`, `AadTooLong`, `TooShort`, `TextTooLong`,
      * `TagMismatch`.
@@ -99,13 +105,14 @@ export class Aead {
     open(suite: Suite, key: Uint8Array, nonce: Uint8Array, sealed: Uint8Array, options?: Options): Uint8Array;
 
     /**
-     * Seals a text where it stands: `text` becomes its ciphertext. Returns the tag of 16 bytes.
+     * Seals a text where it stands: `text` becomes its ciphertext. Returns the tag of 16 bytes, without which it cannot be opened.
      *
      * Never use a nonce twice under one key. If two texts are sealed with one nonce and key, ChaCha20-Poly1305 and AES-GCM give
      * away the XOR of the two texts, and enough to forge messages; AES-GCM-SIV gives away only whether the texts and the
      * associated data were the same. No call notices a repeated nonce.
      *
-     * Throws the first of these that applies: `UnknownSuite`, `KeyLength`, `NonceLength`, `AadTooLong`, `TextTooLong`.
+     * Throws the first of these that applies: `UnknownSuite`, `KeyLength`, `NonceLength`, `AadTooLong`, `TextTooLong`. The text is
+     * unchanged then.
      */
     sealInPlace(suite: Suite, key: Uint8Array, nonce: Uint8Array, text: Uint8Array, options?: Options): Uint8Array;
 
@@ -145,8 +152,7 @@ export class Aead {
  */
 export class Key {
     /**
-     * Makes the schedule of a key. Throws a `TypeError` if `aead` is not an `Aead` of this module, then the first of these that
-     * fits: `UnknownSuite`, `KeyLength`.
+     * Makes the schedule of a key. Throws the first of these that applies: `UnknownSuite`, `KeyLength`.
      */
     constructor(aead: Aead, suite: Suite, key: Uint8Array);
 
@@ -154,7 +160,7 @@ export class Key {
     readonly suite: Suite;
 
     /**
-     * Returns the ciphertext and then the tag of 16 bytes.
+     * Returns the ciphertext, which is as long as the text, and then the tag of 16 bytes. The nonce is 12 bytes long.
      *
      * Never use a nonce twice under one key. If two texts are sealed with one nonce and key, ChaCha20-Poly1305 and AES-GCM give
      * away the XOR of the two texts, and enough to forge messages; AES-GCM-SIV gives away only whether the texts and the
@@ -165,20 +171,21 @@ export class Key {
     seal(nonce: Uint8Array, text: Uint8Array, options?: Options): Uint8Array;
 
     /**
-     * Returns the text of what `seal` made, which is the ciphertext and then the tag.
+     * Returns the text of what `seal` made, which is the ciphertext and then the tag. The nonce and the associated data are those
+     * that it was sealed with.
      *
      * Throws the first of these that applies: `NonceLength`, `AadTooLong`, `TooShort`, `TextTooLong`, `TagMismatch`.
      */
     open(nonce: Uint8Array, sealed: Uint8Array, options?: Options): Uint8Array;
 
     /**
-     * Seals a text where it stands: `text` becomes its ciphertext. Returns the tag of 16 bytes.
+     * Seals a text where it stands: `text` becomes its ciphertext. Returns the tag of 16 bytes, without which it cannot be opened.
      *
      * Never use a nonce twice under one key. If two texts are sealed with one nonce and key, ChaCha20-Poly1305 and AES-GCM give
      * away the XOR of the two texts, and enough to forge messages; AES-GCM-SIV gives away only whether the texts and the
      * associated data were the same. No call notices a repeated nonce.
      *
-     * Throws the first of these that applies: `NonceLength`, `AadTooLong`, `TextTooLong`.
+     * Throws the first of these that applies: `NonceLength`, `AadTooLong`, `TextTooLong`. The text is unchanged then.
      */
     sealInPlace(nonce: Uint8Array, text: Uint8Array, options?: Options): Uint8Array;
 
@@ -201,7 +208,7 @@ export class Key {
     sealer(nonce: Uint8Array, options?: Options): Sealer;
 
     /**
-     * Begins an opening in pieces of a ciphertext with a tag of 16 bytes.
+     * Begins an opening in pieces of a ciphertext with a tag of 16 bytes, which are the last of what `seal` made.
      *
      * Throws the first of these that applies: `TagLength`, `NonceLength`, `AadTooLong`.
      */
@@ -218,7 +225,7 @@ export class Key {
      */
     sivSealer(nonce: Uint8Array, options?: Options): SivSealer;
 
-    /** Leaves zeros in the key's memory. Each call after it throws `NotBegun`. What the key began goes on. */
+    /** Leaves zeros in the key's memory. Each other call after it throws `NotBegun`. What the key began goes on. */
     wipe(): void;
 }
 
@@ -243,16 +250,17 @@ export class Sealer {
     /**
      * Returns the ciphertext of the next piece of the text, of any length.
      *
-     * Throws `NotBegun` after `finish`, and `TextTooLong`, after which the piece does not count and a shorter one may follow.
+     * Throws `NotBegun` after `finish`, `save` or `wipe`, and `TextTooLong`, after which the piece does not count and a shorter one
+     * may follow.
      */
     update(piece: Uint8Array): Uint8Array;
 
-    /** Ends the sealing, and returns the tag of 16 bytes. Throws `NotBegun` if it was ended before. */
+    /** Ends the sealing, and returns the tag of 16 bytes. Throws `NotBegun` if `finish`, `save` or `wipe` ended it before. */
     finish(): Uint8Array;
 
     /**
      * Ends the sealing here, and returns the 96 bytes that `resume` takes to go on with it, after a restart, say. Throws
-     * `NotBegun` after `finish`.
+     * `NotBegun` as `finish` does.
      *
      * NEVER RESUME ONE SAVED STATE TWICE. Two texts would be sealed under one nonce, which gives away their XOR, and enough to
      * forge messages. Mark the stored state as used before the first piece that follows it is sealed. If it is not
@@ -272,7 +280,7 @@ export class Sealer {
      */
     static resume(aead: Aead, suite: Suite, key: Uint8Array, nonce: Uint8Array, saved: Uint8Array): Sealer;
 
-    /** Gives the sealing up, and leaves zeros in its memory, as `finish` does. */
+    /** Gives the sealing up, and leaves zeros in its memory, as `finish` does. Each other call after it throws `NotBegun`. */
     wipe(): void;
 }
 
@@ -283,7 +291,7 @@ export class Sealer {
  */
 export class Opener {
     /**
-     * Begins an opening of a ciphertext with a tag of 16 bytes, with the calls of an `Aead`.
+     * Begins an opening with the calls of an `Aead`, of a ciphertext with a tag of 16 bytes, which are the last of what `seal` made.
      *
      * Throws the first of these that applies: `TagLength`, `UnknownSuite`, `KeyLength`, `NonceLength`, `AadTooLong`.
      */
@@ -293,14 +301,14 @@ export class Opener {
      * Takes the next piece of the ciphertext in the first pass. The tag is not part of the ciphertext. Whether the sealing is
      * valid is known from `beginSecond` alone.
      *
-     * Throws `NotBegun` after the first pass, and `TextTooLong`, after which the piece does not count and a shorter one may
-     * follow.
+     * Throws `NotBegun` after the first pass or `wipe`, and `TextTooLong`, after which the piece does not count and a shorter one
+     * may follow.
      */
     check(piece: Uint8Array): void;
 
     /**
      * Ends the first pass and begins the second. Throws `TagMismatch` if authentication failed, which ends the opening, and
-     * `NotBegun` after the first pass.
+     * `NotBegun` after the first pass or `wipe`.
      */
     beginSecond(): void;
 
@@ -308,19 +316,19 @@ export class Opener {
      * Returns the text of the next piece of the ciphertext in the second pass, which may be used once `finish` has returned.
      *
      * Throws `NotBegun` before `beginSecond` and after `finish`, and `SourceChanged` if the second pass would be longer than the
-     * first.
+     * first, after which the piece does not count.
      */
     update(piece: Uint8Array): Uint8Array;
 
     /**
-     * Ends the second pass. Throws `SourceChanged` if its authentication failed: throw away what `update` returned then. Throws
-     * `NotBegun` as `update` does.
+     * Ends the second pass and the opening. Throws `SourceChanged`, and ends it too, if its authentication failed: throw away what
+     * `update` returned then. Throws `NotBegun` as `update` does.
      */
     finish(): void;
 
     /**
      * Returns the 144 bytes that `resume` takes to go on from here, in either pass. The opening itself goes on too. Throws
-     * `NotBegun` after `finish`.
+     * `NotBegun` after the opening has ended.
      *
      * Keep the bytes as secret as the key, and where nobody else can write: that the first pass was authenticated is known from
      * them alone. The key, the nonce and the place that was reached in the ciphertext are not among them.
@@ -336,7 +344,7 @@ export class Opener {
      */
     static resume(aead: Aead, suite: Suite, key: Uint8Array, nonce: Uint8Array, saved: Uint8Array): Opener;
 
-    /** Gives the opening up, and leaves zeros in its memory, as `finish` does. */
+    /** Gives the opening up, and leaves zeros in its memory, as `finish` does. Each other call after it throws `NotBegun`. */
     wipe(): void;
 }
 
@@ -360,31 +368,34 @@ export class SivSealer {
     /**
      * Takes the next piece of the text in the first reading.
      *
-     * Throws `NotBegun` after the first reading, and `TextTooLong`, after which the piece does not count and a shorter one may
-     * follow.
+     * Throws `NotBegun` after the first reading, `save` or `wipe`, and `TextTooLong`, after which the piece does not count and a
+     * shorter one may follow.
      */
     absorb(piece: Uint8Array): void;
 
-    /** Ends the first reading and begins the second. Returns the tag of 16 bytes. Throws `NotBegun` after the first reading. */
+    /**
+     * Ends the first reading and begins the second. Returns the tag of 16 bytes. Throws `NotBegun` after the first reading, `save`
+     * or `wipe`.
+     */
     beginSecond(): Uint8Array;
 
     /**
      * Returns the ciphertext of the next piece of the text in the second reading, which may be used once `finish` has returned.
      *
-     * Throws `NotBegun` before `beginSecond` and after `finish`, and `SourceChanged` if the second reading would be longer than the
-     * first.
+     * Throws `NotBegun` before `beginSecond` and after `finish`, `save` or `wipe`, and `SourceChanged` if the second reading would
+     * be longer than the first, after which the piece does not count.
      */
     update(piece: Uint8Array): Uint8Array;
 
     /**
-     * Ends the second reading. Throws `SourceChanged` if its text had another length or tag than the first: throw away what
-     * `update` returned then. Throws `NotBegun` as `update` does.
+     * Ends the second reading and the sealing. Throws `SourceChanged`, and ends it too, if its text had another length or tag than
+     * the first: throw away what `update` returned then. Throws `NotBegun` as `update` does.
      */
     finish(): void;
 
     /**
-     * Ends the sealing here, and returns the 144 bytes that `resume` takes to go on with it, after a restart, say. Throws
-     * `NotBegun` after `finish`.
+     * Ends the sealing here, and returns the 144 bytes that `resume` takes to go on with it, in either reading, after a restart,
+     * say. Throws `NotBegun` after the sealing has ended.
      *
      * NEVER RESUME ONE SAVED STATE TWICE. Two texts would be encrypted with one key stream, which gives away their XOR. Mark the
      * stored state as used before the first piece that follows it is sealed. If it is not known after a crash whether it was
@@ -404,13 +415,14 @@ export class SivSealer {
      */
     static resume(aead: Aead, suite: Suite, key: Uint8Array, nonce: Uint8Array, saved: Uint8Array): SivSealer;
 
-    /** Gives the sealing up, and leaves zeros in its memory, as `finish` does. */
+    /** Gives the sealing up, and leaves zeros in its memory, as `finish` does. Each other call after it throws `NotBegun`. */
     wipe(): void;
 }
 
 /**
  * The calls of aeadkit.wasm that wrap and unwrap. The constructor takes the bytes of that file, as that of `Aead` does. A key is
- * 16, 24 or 32 bytes long, or the fault is `KeyLength`.
+ * 16, 24 or 32 bytes long, or each call throws `KeyLength`, before the faults that it names. A text should be a key or as random
+ * as a key: equal texts have equal wrappings under one key.
  */
 export class KeyWrap {
     constructor(bytes: ArrayBuffer | ArrayBufferView);
@@ -423,20 +435,21 @@ export class KeyWrap {
     wrap(key: Uint8Array, text: Uint8Array): Uint8Array;
 
     /**
-     * Returns the text of what `wrap` made. Throws `WrapLength` if that is shorter than 24 bytes, or its length is not a multiple
-     * of 8; then `WrapIntegrity` if it is not a valid wrapping under this key.
+     * Returns the text of what `wrap` made, which is 8 bytes shorter. Throws `WrapLength` if `wrapped` is shorter than 24 bytes, or
+     * its length is not a multiple of 8; then `WrapIntegrity` if it is not a valid wrapping under this key.
      */
     unwrap(key: Uint8Array, wrapped: Uint8Array): Uint8Array;
 
     /**
-     * Returns the wrapping with padding of a text of 1 to 2^32 - 1 bytes (RFC 5649). Throws `WrapLength` for an empty text, and
-     * `TextTooLong`.
+     * Returns the wrapping with padding of a text of 1 to 2^32 - 1 bytes (RFC 5649), whose length is that of the text, rounded up
+     * to a multiple of 8, plus 8. Throws `WrapLength` for an empty text, and `TextTooLong`.
      */
     wrapPadded(key: Uint8Array, text: Uint8Array): Uint8Array;
 
     /**
-     * Returns the text of what `wrapPadded` made. Throws `WrapLength` if that is shorter than 16 bytes, or its length is not a
-     * multiple of 8; then `TextTooLong`, then `WrapIntegrity` if it is not a valid wrapping with padding under this key.
+     * Returns the text of what `wrapPadded` made, without the padding. Throws `WrapLength` if `wrapped` is shorter than 16 bytes,
+     * or its length is not a multiple of 8; then `TextTooLong` if it is longer than 2^32 + 8 bytes, then `WrapIntegrity` if it is
+     * not a valid wrapping with padding under this key.
      */
     unwrapPadded(key: Uint8Array, wrapped: Uint8Array): Uint8Array;
 }

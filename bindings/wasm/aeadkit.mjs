@@ -125,12 +125,21 @@ function wantBytes(...arrays) {
     });
 }
 
-// Throws if a call is given bytes or associated data after its last argument, such as a last piece for `finish`: they would be left
-// out. Anything else is let through, since `map` gives the index of a piece to `update`, and a stream its controller to `check`.
+// Throws if a call is given associated data after its last argument, or what has a length, such as a last piece for `finish`: it
+// would be left out. Anything else is let through, since `map` gives the index of a piece to `update`, and a stream its controller
+// to `check`. So is "buffer", which a stream of Node gives as the encoding of a piece of bytes.
 function wantNoMore(more) {
-    if (ArrayBuffer.isView(more) || more?.aad !== undefined) {
+    const isSized = ArrayBuffer.isView(more) || ["length", "byteLength"].some((name) => more?.[name] !== undefined);
+    if (isSized && more !== "buffer" || more?.aad !== undefined) {
         throw new TypeError("an argument too many: the call takes no more bytes, and no associated data");
     }
+}
+
+// Whether an object has no prototype, or the Object.prototype of a realm: this one, or one of a frame or of node:vm.
+function isPlain(object) {
+    const prototype = Object.getPrototypeOf(object);
+    return [Object.prototype, null].includes(prototype)
+        || Object.getPrototypeOf(prototype) === null && Object.hasOwn(prototype, "hasOwnProperty");
 }
 
 // Returns the associated data that options name, which is empty if they name none. Throws if they are not a plain object, as in
@@ -139,8 +148,7 @@ function wantNoMore(more) {
 // the call was given after them.
 function aadOf(options, more) {
     wantNoMore(more);
-    if (options === null || ![Object.prototype, null].includes(Object.getPrototypeOf(options))
-        || Reflect.ownKeys(options).some((name) => name !== "aad")) {
+    if (options === null || !isPlain(options) || Reflect.ownKeys(options).some((name) => name !== "aad")) {
         throw new TypeError("associated data is given by name: { aad }");
     }
     const { aad } = options;

@@ -142,6 +142,24 @@ for (const call of [
 assert.throws(() => aead.suiteNamed(2), TypeError);
 assert.match(aead.version, /^3\.\d+\.\d+$/);
 
+// Each suite's constant and name are those of its published vectors, and the types give it the same number.
+const published = readFileSync(new URL("published.vectors", import.meta.url), "utf8").split("\n\n")
+    .map((record) => Object.fromEntries(Array.from(record.matchAll(/^(\w+) = ?(.*)$/gm), ([, name, value]) => [name, value])))
+    .filter((record) => record.nonce !== undefined);
+const constantOf = (name) => name.toUpperCase().replaceAll("-", "_");
+for (const record of published) {
+    const number = Suite[constantOf(record.suite)];
+    const [key, nonce, aad, text, sealed] = ["key", "nonce", "aad", "text", "sealed"]
+        .map((name) => new Uint8Array(Buffer.from(record[name], "hex")));
+    assert.equal(aead.suiteNamed(record.suite), number);
+    assert.deepEqual(aead.seal(number, key, nonce, text, { aad }), sealed);
+    assert.deepEqual(new Key(aead, number, key).open(nonce, sealed, { aad }), text);
+}
+assert.deepEqual(new Set(published.map((record) => constantOf(record.suite))), new Set(Object.keys(Suite)));
+const types = readFileSync(new URL("aeadkit.d.mts", import.meta.resolve("aeadkit/node")), "utf8");
+assert.deepEqual(Object.fromEntries(Array.from(types.matchAll(/readonly (\w+): (\d+);/g), ([, name, number]) => [name, +number])),
+    { ...Suite });
+
 // Each call that takes associated data, with what stands in the place of its options.
 const sealed = kept.seal(nonce, text, { aad });
 const named = [
@@ -166,6 +184,8 @@ for (const other of [
     { aad, tag: undefined }, { [Symbol("aad")]: aad }, Object.defineProperty({}, "add", { value: aad }),
     // their aad is not their own, and would be left out
     new Proxy({}, { get: () => aad }), new Proxy({}, { get: () => aad, ownKeys: () => ["aad"] }),
+    Object.create({ __proto__: null, aad }), Object.create({ __proto__: null, add: aad }),
+    ...runInNewContext("[[aad], { add: aad }, { aad, add: aad }, Object.create({ aad }), new (class { aad = aad; })()]", { aad }),
 ]) {
     for (const call of named) {
         assert.throws(() => call(other), byName);
@@ -173,6 +193,10 @@ for (const other of [
 }
 named.forEach((call) => call({ aad }));
 named.forEach((call) => call({ __proto__: null, aad }));
+// They may be an object of another realm, as of a frame.
+named.forEach((call) => call(runInNewContext("({ aad })", { aad })));
+assert.deepEqual(kept.seal(nonce, text, runInNewContext("({ aad })", { aad })), sealed);
+assert.deepEqual(kept.seal(nonce, text, runInNewContext("({})")), kept.seal(nonce, text));
 assert.deepEqual(kept.seal(nonce, text, new Proxy({ aad }, {})), sealed);
 
 // A call in the order of version 2.0, whose associated data stood before the text or the tag, throws that TypeError.
@@ -213,19 +237,27 @@ assert.throws(() => aead.seal(suite, key, nonce), TypeError);
 assert.throws(() => new Opener(aead, suite, key, nonce, none), aeadkit.TagLength);
 assert.deepEqual(kept.seal(Buffer.from(nonce), Buffer.from(text), { aad: Buffer.from(aad) }), sealed);
 
-// Bytes or associated data after the last argument are refused, and a state goes on: they would be missing in the sealing, as a
-// last piece, or stay as they were, as the output of a caller from C. The index that `map` gives, and the controller of a stream,
-// are let through.
+// Associated data after the last argument, or what has a length, is refused, and a state goes on: it would be missing in the
+// sealing, as a last piece, or stay as it was, as the output of a caller from C, or be an encoding that no result has. The index
+// that `map` gives, the controller of a stream, and the encoding of bytes that a stream of Node gives, are let through.
 const [first, rest] = [text.subarray(0, 20), text.subarray(20)];
 const [body, itsTag] = [sealed.subarray(0, -16), sealed.subarray(-16)];
 const sealing = kept.sealer(nonce, { aad });
 const opening = kept.opener(nonce, itsTag, { aad });
 const reading = new SivSealer(aead, siv, key, nonce, { aad });
 const extra = (call) => {
-    for (const more of [rest, none, Buffer.from(rest), { aad }]) {
+    for (const more of [
+        rest, none, Buffer.from(rest), { aad }, new Uint16Array(3), new DataView(rest.buffer), rest.buffer, new SharedArrayBuffer(3),
+        "", "hex", "a last piece", [...rest], [], { length: 1, 0: 7 }, { byteLength: 1 }, () => rest,
+        ...runInNewContext("[aad, { aad }, [7], new Uint8Array(3), new ArrayBuffer(3), new DataView(new ArrayBuffer(3))]", { aad }),
+    ]) {
         assert.throws(() => call(more), { name: "TypeError", message: /^an argument too many/ });
     }
 };
+for (const more of [undefined, null, 0, 1, 2n, true, {}, { aad: undefined }, new Map(), "buffer"]) {
+    assert.deepEqual(kept.sealer(nonce, { aad }, more).update(first, more), body.slice(0, 20));
+    assert.deepEqual(kept.open(nonce, sealed, { aad }, more), text);
+}
 named.forEach((call) => extra((more) => call({ aad }, more)));
 named.forEach((call) => extra((more) => call(undefined, more)));
 extra((more) => new Key(aead, suite, key, more));
