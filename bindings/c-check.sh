@@ -2,6 +2,7 @@
 # Compiles the header for each standard of C, measures the stack of each call, loads two versions of the library into one
 # process, and runs the examples, also on damaged messages, files, wrappings and backups.
 set -eu
+unset CDPATH
 if [ $# != 1 ]; then
     echo "usage: c-check.sh PREFIX" >&2
     exit 2

@@ -1,6 +1,7 @@
 #!/bin/sh
 # Runs the examples and the tests of the Python package, by an interpreter that finds the package.
 set -eu
+unset CDPATH
 if [ $# != 1 ]; then
     echo "usage: python-check.sh PYTHON" >&2
     exit 2
