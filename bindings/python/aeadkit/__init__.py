@@ -569,43 +569,45 @@ class _InPieces(_HasStruct):
 
     def _take(self, function: Callable[..., int], piece: Buffer) -> None:
         """A call that only reads the piece."""
-        slices = _slices(piece)
+        slices, status = _slices(piece), 0
         try:
-            _check(self._call(function, *slices))
-        except BaseException as error:
+            status = self._call(function, *slices)
+            _check(status)
+        except BaseException:
             try:
-                self._end(error)
+                self._end(status)
             except BaseException:  # of the handler of another signal
-                self._end(error)
+                self._end(status)
             raise
 
     def _change(self, function: Callable[..., int], piece: Buffer) -> bytes:
         """What a call makes of a copy of the piece."""
         copy = _copy_of(piece)
-        room = copy.getbuffer()
+        room, status = copy.getbuffer(), 0
         try:
             with room:
                 status = _in_place(room, self._call, (function,))
             _check(status)
             return copy.getvalue()
-        except BaseException as error:
+        except BaseException:
             try:
-                self._end(error)
+                self._end(status)
             except BaseException:  # of the handler of another signal
-                self._end(error)
+                self._end(status)
             raise
 
     def _change_in_place(self, function: Callable[..., int], piece: Buffer) -> None:
         """A call that changes the piece where it stands."""
-        room = _writable(piece)
+        room, status = _writable(piece), 0
         try:
-            _check(_in_place(room, self._call, (function,)))
+            status = _in_place(room, self._call, (function,))
+            _check(status)
             room.release()
-        except BaseException as error:
+        except BaseException:
             try:
-                self._end(error)
+                self._end(status)
             except BaseException:  # of the handler of another signal
-                self._end(error)
+                self._end(status)
             room.release()
             raise
 
@@ -632,10 +634,11 @@ class _InPieces(_HasStruct):
         if self._is_unfinished():
             self._warn_of_giving_up(_warn)
 
-    def _end(self, error: BaseException) -> None:
-        """Closes the object, also for the calls of other threads, unless the library or the package refused a call."""
+    def _end(self, status: int) -> None:
+        """Closes the object, also for the calls of other threads, unless the library refused the call with this status. The
+        exception does not say so: a signal handler may raise any, a Refused of another call too."""
         struct = self._struct
-        if struct is None or struct.is_forked() or isinstance(error, Refused):
+        if status or struct is None or struct.is_forked():
             return
         self._struct = None
         with struct.lock:
@@ -794,19 +797,32 @@ class _Saves(_InPieces):
         Keep the bytes as secret as the key, since with them messages can be forged under it, and where nobody else can write:
         nothing authenticates them. The key and the nonce are not among them, nor is the place that was reached in the text.
 
-        Raises NotBegun after finish; or NotImplementedError if the library that was loaded cannot save.
+        Raises NotBegun after finish; or NotImplementedError if the library that was loaded cannot save. If an exception from a
+        signal handler ends the call, the object is as before, or closed.
         """
         saved = self._saved.memory()
 
         def save_and_wipe(struct: _Struct) -> int:
-            # in one call, so that no other thread goes on beside what is saved
-            status = self._saved.save(struct, saved)
-            if not status:
+            # In one call, so that no other thread goes on beside what is saved. The object lets go of the struct first, so that
+            # nothing that runs in this thread meanwhile does: a signal handler, or the __del__ of another object.
+            held = self._struct
+            try:
+                self._struct = None
+                status = self._saved.save(struct, saved)
+                if status:
+                    self._struct = held
+                else:
+                    self._kind.wipe(struct)
+                return status
+            except NotImplementedError:
+                self._struct = held
+                raise
+            except BaseException:
+                self._struct = None
                 self._kind.wipe(struct)
-            return status
+                raise
 
         _check(self._call(save_and_wipe))
-        self.close()
         return bytes(saved)
 
     @classmethod
