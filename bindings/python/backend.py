@@ -27,7 +27,7 @@ def _check_version(library):
     number = ctypes.CDLL(str(library)).aeadkit_version()
     version = f"{number // 10000}.{number // 100 % 100}.{number % 100}"
     if version != _field("version"):
-        raise SystemExit(f"{library} has the version {version}, and the package {_field('version')}: lay both out again by build.sh")
+        raise SystemExit(f"{library} has the version {version}, and the package {_field('version')}: run build.sh again")
 
 
 def _files():
