@@ -141,6 +141,13 @@ fi
 # laid out beside the module of PREFIX.
 mkdir "$room/laid"
 cp -a "$prefix/include" "$prefix/lib" "$room/laid/"
+# An earlier wheel is removed, even if there is no python3 to make another one. This is shown by a python3 that fails.
+mkdir -p "$room/no-python" "$room/laid/share/aeadkit"
+printf '#!/bin/sh\nexit 127\n' > "$room/no-python/python3"
+chmod +x "$room/no-python/python3"
+touch "$room/laid/share/aeadkit/aeadkit-2.1.0-py3-none-linux_x86_64.whl"
+PATH=$room/no-python:$PATH ./packages.sh "$room/laid"
+[ -z "$(find "$room/laid/share/aeadkit" -name '*.whl')" ] || { echo "packages.sh leaves an earlier wheel" >&2; exit 1; }
 ./packages.sh "$room/laid"
 if ! python3 -c 'import ctypes' > "$room/log" 2>&1; then
     echo "left out: Python, no python3 with ctypes"

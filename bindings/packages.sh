@@ -5,7 +5,7 @@ unset CDPATH
 if [ $# != 1 ]; then
     echo "usage: packages.sh PREFIX
   PREFIX   gets share/aeadkit/rust, a crate for cargo, and share/aeadkit/python, for pip, with a wheel if
-           python3 is there" >&2
+           a python3 with ctypes is there; an earlier wheel is removed" >&2
     exit 2
 fi
 prefix=$(cd "$1" && pwd)
@@ -22,8 +22,9 @@ cp -R python/backend.py python/aeadkit "$python/"
 rm -rf "$python/aeadkit/__pycache__"
 filled python/pyproject.toml "$version" > "$python/pyproject.toml"
 filled python/aeadkit/__init__.py "$version" > "$python/aeadkit/__init__.py"
-if python3 --version > "$python/log" 2>&1; then
-    rm -f "$prefix/share/aeadkit/"*.whl
+# pip would install an earlier wheel, which has an earlier library
+rm -f "$prefix/share/aeadkit/"*.whl
+if python3 -c 'import ctypes' > "$python/log" 2>&1; then
     AEADKIT_PREFIX=$prefix PYTHONDONTWRITEBYTECODE=1 python3 "$python/backend.py" "$prefix/share/aeadkit" > "$python/log"
 fi
 rm "$python/log"

@@ -1,5 +1,6 @@
 #!/bin/sh
-# Runs the examples and the tests of the Python package, by an interpreter that finds the package.
+# Runs the examples and the tests of the Python package, by an interpreter that finds the package. If it loads the build for AVX2,
+# the tests also run over the default build beside it, which other processors get.
 set -eu
 unset CDPATH
 if [ $# != 1 ]; then
@@ -18,6 +19,12 @@ run() {
 }
 run "$python" "$here/examples/vectors.py"
 run "$python" -m unittest discover -s "$here/tests"
+loaded=$("$python" -c 'from aeadkit import _library; print(_library._file)')
+default=${loaded%/x86-64-v3/*}/${loaded##*/}
+case $loaded in */x86-64-v3/*)
+    run env AEADKIT="$default" "$python" "$here/examples/vectors.py"
+    run env AEADKIT="$default" "$python" -m unittest discover -s "$here/tests" ;;
+esac
 run "$python" "$here/examples/keys.py"
 # the types of the package, as callers see them, by a checker of any age
 if [ -z "${PYTHONPATH:-}" ] && command -v mypy > /dev/null; then

@@ -1,10 +1,11 @@
 """Builds a wheel that holds the library, with nothing but Python: for pip, and as backend.py OUT.
 
 The library comes from the folder lib of the prefix that the variable AEADKIT_PREFIX names, or of the one that this folder
-was laid out in, as share/aeadkit/python.
+was laid out in, as share/aeadkit/python. Its version must be that of the package, which is the wheel's name.
 """
 
 import base64
+import ctypes
 import hashlib
 import os
 import pathlib
@@ -21,6 +22,14 @@ def _field(name):
     return re.search(rf'^{name} = "(.*)"$', (HERE / "pyproject.toml").read_text(), re.MULTILINE).group(1)
 
 
+def _check_version(library):
+    """The wheel has the name of one version, and must not hold a library of another."""
+    number = ctypes.CDLL(str(library)).aeadkit_version()
+    version = f"{number // 10000}.{number // 100 % 100}.{number % 100}"
+    if version != _field("version"):
+        raise SystemExit(f"{library} has the version {version}, and the package {_field('version')}: run build.sh again")
+
+
 def _files():
     """The files of the package, each with its name in the wheel."""
     prefix = pathlib.Path(os.environ.get("AEADKIT_PREFIX") or HERE.parents[2])
@@ -30,9 +39,11 @@ def _files():
         raise SystemExit(f"{base} is not there: set AEADKIT_PREFIX to what build.sh laid out")
     for name in ("__init__.py", "_library.py", "py.typed"):
         yield f"aeadkit/{name}", HERE / "aeadkit" / name
+    _check_version(base)
     yield "aeadkit/lib/libaeadkit.so.3", base
     fast = lib / "glibc-hwcaps/x86-64-v3/libaeadkit.so.3"
     if fast.exists():
+        _check_version(fast)
         yield "aeadkit/lib/x86-64-v3/libaeadkit.so.3", fast
 
 

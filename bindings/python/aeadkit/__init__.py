@@ -19,21 +19,23 @@ bytearray, memoryview, array.array, mmap.mmap, an array of numpy. Anything else 
 are addresses, such as a ctypes.c_char_p or an array of objects: for a c_char_p take its value. An argument that is not bytes is
 copied before the call uses it, so another thread may write to it meanwhile. Results are bytes.
 
-The calls whose names end in in_place change a writable buffer where it stands, such as a bytearray, and do not copy it. No
-other thread or process may read or write the buffer during such a call: an opening could otherwise give a text that was never
-sealed. The tag of 16 bytes is separate; the ciphertext and then the tag are the sealing that open takes. If an exception from
-a signal handler, such as KeyboardInterrupt, ends the call, the buffer of seal_in_place is as before, and that of open_in_place
-may hold the text already. A sealing or an opening in pieces is closed if such an exception ends its call on a piece, since
-nobody knows whether the piece was taken. From Python 3.11 on this also holds if two signals come during a call, whose handlers
-raise an exception each; of three nothing is promised. Python before 3.11 may also raise it between the end of a call and the next
-step of the caller, and a task that is cancelled while it waits for a call in another thread does not get the result either. The
+The calls whose names end in in_place change a writable buffer where it stands, such as a bytearray, and do not copy it. A slice
+of a bytearray, as in data[1:5], is a copy, and what the call makes of it is lost: pass memoryview(data)[1:5]. No other thread
+or process may read or write the buffer during such a call: an opening could otherwise give a text that was never sealed. The
+tag of 16 bytes is separate; the ciphertext and then the tag are the sealing that open takes. If an exception from a signal
+handler, such as KeyboardInterrupt, ends the call, the buffer of seal_in_place is as before, and that of open_in_place may hold
+the text already. A sealing or an opening in pieces is closed if such an exception ends its call on a piece, since nobody knows
+whether the piece was taken. From Python 3.11 on this also holds if two signals come during a call, whose handlers raise an
+exception each; of three nothing is promised. Python before 3.11 may also raise it between the end of a call and the next step
+of the caller, and a task that is cancelled while it waits for a call in another thread does not get the result either. The
 result is lost then, though the call was done: close the object, and begin anew under another nonce.
 
-A nonce is 12 bytes long. It is not secret, but it must never be used for two sealings under one key, and nothing here notices
-a repeat. Two sealings with one nonce give away the XOR of their texts, and enough to forge messages under the key; under
-AES-GCM-SIV only whether the texts and the associated data are the same. A sealing in pieces uses its nonce up even if it is
-not finished. A counter does not repeat if it is stored before it is used. Random nonces serve for at most 2^32 sealings under
-a key (SP 800-38D, 8.3).
+A nonce is 12 bytes long. It is not secret, but it must never be used for two sealings under one key, and nothing here notices a
+repeat. Two sealings with one nonce give away the XOR of their texts, and enough to forge messages under the key; under
+AES-GCM-SIV only whether the texts and the associated data are the same. A sealing in pieces uses its nonce up even if it is not
+finished. A counter does not repeat if it is stored before it is used. But a fork copies a counter, so that both processes would
+use the same nonces: give each process a key of its own, or a part of the nonce. Random nonces serve for at most 2^32 sealings
+under a key (SP 800-38D, 8.3).
 
 A call that is refused raises a subclass of Refused. Faults of a suite and of lengths are ValueErrors too. A with statement over
 a sealing or an opening in pieces raises NotFinished if it ends before finish, save or close, and without another exception. If
@@ -414,7 +416,7 @@ def open(suite: int, key: Buffer, nonce: Buffer, sealed: Buffer, *, aad: Optiona
 
 def seal_in_place(suite: int, key: Buffer, nonce: Buffer, text: Buffer, *, aad: Optional[Buffer] = None) -> bytes:
     """Seals a text in a writable buffer, such as a bytearray: the text becomes its ciphertext. Returns the tag of 16 bytes,
-    without which the text cannot be opened again.
+    without which the text cannot be opened again. A slice of a bytearray is a copy: pass memoryview(data)[1:5], not data[1:5].
 
     No other thread may read or write the buffer during the call. If the call is refused, the buffer is as before.
 
@@ -431,7 +433,8 @@ def open_in_place(suite: int, key: Buffer, nonce: Buffer, ciphertext: Buffer, ta
                   aad: Optional[Buffer] = None) -> None:
     """Opens a sealing whose ciphertext is in a writable buffer, such as a bytearray: the ciphertext becomes its text.
 
-    The tag of 16 bytes is not part of the ciphertext.
+    The tag of 16 bytes is not part of the ciphertext. A slice of a bytearray is a copy: pass memoryview(data)[1:5], not
+    data[1:5].
 
     No other thread may read or write the buffer during the call. If the call is refused, the buffer is as before, and holds no
     text.
@@ -569,43 +572,45 @@ class _InPieces(_HasStruct):
 
     def _take(self, function: Callable[..., int], piece: Buffer) -> None:
         """A call that only reads the piece."""
-        slices = _slices(piece)
+        slices, status = _slices(piece), 0
         try:
-            _check(self._call(function, *slices))
-        except BaseException as error:
+            status = self._call(function, *slices)
+            _check(status)
+        except BaseException:
             try:
-                self._end(error)
+                self._end(status)
             except BaseException:  # of the handler of another signal
-                self._end(error)
+                self._end(status)
             raise
 
     def _change(self, function: Callable[..., int], piece: Buffer) -> bytes:
         """What a call makes of a copy of the piece."""
         copy = _copy_of(piece)
-        room = copy.getbuffer()
+        room, status = copy.getbuffer(), 0
         try:
             with room:
                 status = _in_place(room, self._call, (function,))
             _check(status)
             return copy.getvalue()
-        except BaseException as error:
+        except BaseException:
             try:
-                self._end(error)
+                self._end(status)
             except BaseException:  # of the handler of another signal
-                self._end(error)
+                self._end(status)
             raise
 
     def _change_in_place(self, function: Callable[..., int], piece: Buffer) -> None:
         """A call that changes the piece where it stands."""
-        room = _writable(piece)
+        room, status = _writable(piece), 0
         try:
-            _check(_in_place(room, self._call, (function,)))
+            status = _in_place(room, self._call, (function,))
+            _check(status)
             room.release()
-        except BaseException as error:
+        except BaseException:
             try:
-                self._end(error)
+                self._end(status)
             except BaseException:  # of the handler of another signal
-                self._end(error)
+                self._end(status)
             room.release()
             raise
 
@@ -632,10 +637,11 @@ class _InPieces(_HasStruct):
         if self._is_unfinished():
             self._warn_of_giving_up(_warn)
 
-    def _end(self, error: BaseException) -> None:
-        """Closes the object, also for the calls of other threads, unless the library or the package refused a call."""
+    def _end(self, status: int) -> None:
+        """Closes the object, also for the calls of other threads, unless the library refused the call with this status. The
+        exception does not say so: a signal handler may raise any, a Refused of another call too."""
         struct = self._struct
-        if struct is None or struct.is_forked() or isinstance(error, Refused):
+        if status or struct is None or struct.is_forked():
             return
         self._struct = None
         with struct.lock:
@@ -648,8 +654,9 @@ class _InPieces(_HasStruct):
 class Key(_HasStruct):
     """A suite with a key, whose key schedule is made once.
 
-    Threads may share a Key, and a forked process may use it too. It does not change once it is made, and its copy is the Key
-    itself. It cannot be pickled, since the key would be written to the pickle. It is wiped when it is closed or deleted.
+    Threads may share a Key, and a forked process may use it too, but not with the same nonces: a fork copies a counter of
+    nonces. A Key does not change once it is made, and its copy is the Key itself. It cannot be pickled, since the key would be
+    written to the pickle. It is wiped when it is closed or deleted.
 
     Raises UnknownSuite or KeyLength.
     """
@@ -697,7 +704,8 @@ class Key(_HasStruct):
 
     def seal_in_place(self, nonce: Buffer, text: Buffer, *, aad: Optional[Buffer] = None) -> bytes:
         """Seals a text in a writable buffer, such as a bytearray: the text becomes its ciphertext. Returns the tag of 16 bytes,
-        without which the text cannot be opened again.
+        without which the text cannot be opened again. A slice of a bytearray is a copy: pass memoryview(data)[1:5], not
+        data[1:5].
 
         No other thread may read or write the buffer during the call. If the call is refused, the buffer is as before.
 
@@ -713,7 +721,8 @@ class Key(_HasStruct):
     def open_in_place(self, nonce: Buffer, ciphertext: Buffer, tag: Buffer, *, aad: Optional[Buffer] = None) -> None:
         """Opens a sealing whose ciphertext is in a writable buffer, such as a bytearray: the ciphertext becomes its text.
 
-        The tag of 16 bytes is not part of the ciphertext.
+        The tag of 16 bytes is not part of the ciphertext. A slice of a bytearray is a copy: pass memoryview(data)[1:5], not
+        data[1:5].
 
         No other thread may read or write the buffer during the call. If the call is refused, the buffer is as before, and holds
         no text.
@@ -794,19 +803,32 @@ class _Saves(_InPieces):
         Keep the bytes as secret as the key, since with them messages can be forged under it, and where nobody else can write:
         nothing authenticates them. The key and the nonce are not among them, nor is the place that was reached in the text.
 
-        Raises NotBegun after finish; or NotImplementedError if the library that was loaded cannot save.
+        Raises NotBegun after finish; or NotImplementedError if the library that was loaded cannot save. If an exception from a
+        signal handler ends the call, the object is as before, or closed.
         """
         saved = self._saved.memory()
 
         def save_and_wipe(struct: _Struct) -> int:
-            # in one call, so that no other thread goes on beside what is saved
-            status = self._saved.save(struct, saved)
-            if not status:
+            # In one call, so that no other thread goes on beside what is saved. The object lets go of the struct first, so that
+            # nothing that runs in this thread meanwhile does: a signal handler, or the __del__ of another object.
+            held = self._struct
+            try:
+                self._struct = None
+                status = self._saved.save(struct, saved)
+                if status:
+                    self._struct = held
+                else:
+                    self._kind.wipe(struct)
+                return status
+            except NotImplementedError:
+                self._struct = held
+                raise
+            except BaseException:
+                self._struct = None
                 self._kind.wipe(struct)
-            return status
+                raise
 
         _check(self._call(save_and_wipe))
-        self.close()
         return bytes(saved)
 
     @classmethod
@@ -840,8 +862,10 @@ class Sealer(_Saves):
     """A sealing in pieces under ChaCha20-Poly1305 or AES-GCM: update with each piece of the text, then finish.
 
     The ciphertexts of the pieces and then the tag are the sealing of the whole text, however it is cut into pieces. Calls from
-    several threads come one after the other, and the pieces are joined in that order. A Sealer cannot be copied or pickled,
-    and a forked process cannot go on with it: two sealings that go on from one would seal two texts under one nonce.
+    several threads come one after the other, and the pieces are joined in the order of these calls. With
+    pool.map(sealer.update, pieces) this may be another order than that of the list, and the sealing could not be opened: pass
+    the pieces from one thread. A Sealer cannot be copied or pickled, and a forked process cannot go on with it: two sealings
+    that go on from one would seal two texts under one nonce.
 
     Never use a nonce twice under one key, not even after a Sealer that was not finished: two texts under one nonce give away
     their XOR, and enough to forge messages.
@@ -870,7 +894,7 @@ class Sealer(_Saves):
 
     def update_in_place(self, piece: Buffer) -> None:
         """Takes the next piece of the text, in a writable buffer, which becomes its ciphertext. No other thread may read or
-        write the buffer during the call.
+        write the buffer during the call. A slice of a bytearray is a copy: pass memoryview(data)[1:5], not data[1:5].
 
         Raises NotBegun and TextTooLong as update does, and the buffer is as before; or TypeError if it is not writable.
         """
@@ -887,8 +911,8 @@ class Opener(_Saves):
 
     The last 16 bytes of a sealing are its tag, which is not part of the ciphertext. The pieces of the second pass may be cut
     differently. No text is returned before the first pass has found a valid sealing, and the text may be used once finish
-    returns. Calls from several threads come one after the other, and the pieces are joined in that order. An Opener cannot be
-    copied or pickled, and a forked process cannot go on with it.
+    returns. Calls from several threads come one after the other, and the pieces are joined in the order of these calls: pass
+    them from one thread. An Opener cannot be copied or pickled, and a forked process cannot go on with it.
 
     The nonce is the one that the text was sealed with. A nonce must never be used to seal twice under one key: two texts under
     one nonce give away their XOR, and enough to forge messages; under AES-GCM-SIV only whether the texts and the associated
@@ -937,7 +961,8 @@ class Opener(_Saves):
 
     def update_in_place(self, piece: Buffer) -> None:
         """Takes the next piece of the ciphertext in the second pass, in a writable buffer, which becomes its text. No other
-        thread may read or write the buffer during the call.
+        thread may read or write the buffer during the call. A slice of a bytearray is a copy: pass memoryview(data)[1:5], not
+        data[1:5].
 
         Raises NotBegun and SourceChanged as update does, and the buffer is as before; or TypeError if it is not writable.
         """
@@ -957,8 +982,9 @@ class SivSealer(_Saves):
     begin_second, which returns the tag; then update with each piece again, then finish.
 
     The ciphertexts of the pieces and then the tag are the sealing of the whole text, once finish returns. The pieces of the
-    second reading may be cut differently. Calls from several threads come one after the other, and the pieces are joined in
-    that order. A SivSealer cannot be copied or pickled, and a forked process cannot go on with it.
+    second reading may be cut differently. Calls from several threads come one after the other, and the pieces are joined in the
+    order of these calls: pass them from one thread. A SivSealer cannot be copied or pickled, and a forked process cannot go on
+    with it.
 
     Never use a nonce twice under one key: two sealings under one nonce give away whether their texts and associated data are
     the same.
@@ -1002,7 +1028,8 @@ class SivSealer(_Saves):
 
     def update_in_place(self, piece: Buffer) -> None:
         """Takes the next piece of the text in the second reading, in a writable buffer, which becomes its ciphertext. No other
-        thread may read or write the buffer during the call.
+        thread may read or write the buffer during the call. A slice of a bytearray is a copy: pass memoryview(data)[1:5], not
+        data[1:5].
 
         Raises NotBegun and SourceChanged as update does, and the buffer is as before; or TypeError if it is not writable.
         """

@@ -7,6 +7,7 @@ change what is stored:
 - a changed or shortened record, or wrapped key, is refused: TagMismatch or WrapIntegrity
 - records that changed places, or come from another batch, are refused: TagMismatch
 - a batch with records cut off or added, or under another batch's name, is refused: TagMismatch
+- a batch without records is refused, by seal too: nothing of it would be authenticated, and all records may have been cut off
 - a whole earlier batch of the same name and size in the place of a later one is NOT noticed: if that matters, put a version
   into the name, and store the newest version where nobody else can write
 """
@@ -15,7 +16,7 @@ import os
 from concurrent.futures import ThreadPoolExecutor
 from typing import Dict, List, NamedTuple
 
-from aeadkit import Key, Refused, Suite, unwrap, wrap
+from aeadkit import Key, Refused, Suite, TagMismatch, unwrap, wrap
 
 
 class Batch(NamedTuple):
@@ -43,6 +44,8 @@ class KeyRing:
         self.keys[self.newest] = os.urandom(32)
 
     def seal(self, name: str, records: List[bytes], pool: ThreadPoolExecutor) -> Batch:
+        if not records:
+            raise ValueError("a batch without records could not be told from one whose records were cut off")
         data_key = os.urandom(32)
         key = Key(Suite.AES_256_GCM, data_key)  # one object for all threads
         batch = Batch(name, self.newest, wrap(self.keys[self.newest], data_key), [b""] * len(records))
@@ -53,6 +56,8 @@ class KeyRing:
         return batch._replace(sealed=list(pool.map(seal_record, range(len(records)))))
 
     def open(self, batch: Batch, pool: ThreadPoolExecutor) -> List[bytes]:
+        if not batch.sealed:
+            raise TagMismatch("the batch has no records")
         key = Key(Suite.AES_256_GCM, unwrap(self.keys[batch.wrapped_under], batch.wrapped_key))
 
         def open_record(number: int) -> bytes:
@@ -74,11 +79,12 @@ def main() -> None:
         stored = [ring.rewrap(batch) for batch in stored]
         del ring.keys[1]  # no batch needs the old key any more
         letters, bills = stored
-        assert ring.open(letters, pool) == [f"letters {n}".encode() * n for n in range(100)]
+        if ring.open(letters, pool) != [f"letters {n}".encode() * n for n in range(100)]:
+            raise SystemExit("the batch has other records than were sealed")
 
         swapped = letters.sealed[1::-1] + letters.sealed[2:]
         for changed in (letters._replace(sealed=swapped), letters._replace(sealed=letters.sealed[:-1]),
-                        letters._replace(sealed=bills.sealed), letters._replace(name="bills"),
+                        letters._replace(sealed=[]), letters._replace(sealed=bills.sealed), letters._replace(name="bills"),
                         letters._replace(wrapped_key=bills.wrapped_key), letters._replace(wrapped_key=bytes(40))):
             try:
                 ring.open(changed, pool)

@@ -4,9 +4,9 @@ KEYFILE holds 32 bytes. OUT becomes the nonce, the ciphertext and the tag. If th
 each turn of its loop begins with the step in OUT.step, so a restart is a turn like any other. A step has a piece of OUT, and
 the state that comes after the piece. The next step replaces it on the disk before its own piece is written to OUT: so two pieces
 that are sealed from one state are never seen, even if IN is changed between two runs. But OUT would then be the sealing of
-a text that never was: if IN has another length or time of change than at first, it is refused. So is an OUT that was removed, or
-has another length: it would get the rest of the sealing alone. Two runs at once would go on from one state: the second one is
-refused. An OUT that is IN or KEYFILE is refused too.
+a text that never was: if IN is another file, or has another length or time of change than at first, it is refused, and no piece
+of it is sealed. So is an OUT that was removed, or has another length: it would get the rest of the sealing alone. Two runs at
+once would go on from one state: the second one is refused. An OUT that is IN or KEYFILE is refused too.
 
 OUT.step is as secret as KEYFILE, and must lie where nobody else can write. It is removed when OUT is whole.
 """
@@ -37,7 +37,7 @@ def store(path: str, step: object) -> None:
 def state_of(file: BinaryIO) -> List[int]:
     """What differs after a file was changed, or if it is another one."""
     found = os.fstat(file.fileno())
-    return [found.st_size, found.st_mtime_ns]
+    return [found.st_dev, found.st_ino, found.st_size, found.st_mtime_ns]
 
 
 def seal_file(key: bytes, source_name: str, target_name: str) -> None:
@@ -64,10 +64,10 @@ def seal_file(key: bytes, source_name: str, target_name: str) -> None:
             os.fsync(target.fileno())
             if not saved:
                 return os.remove(path)
-            if state_of(source) != first_state:
-                raise ValueError("IN is not as it was: remove OUT.step to begin anew")
             source.seek(target.tell() - NONCE)
             text, sealer = source.read(PIECE), Sealer.resume(SUITE, key, bytes.fromhex(hex_nonce), bytes.fromhex(saved))
+            if state_of(source) != first_state:  # after the text was read, which may be that of a changed IN
+                raise ValueError("IN is not as it was: remove OUT.step to begin anew")
             piece = sealer.update(text) if text else sealer.finish()
             store(path, [first_state, hex_nonce, target.tell(), piece.hex(), sealer.save().hex() if text else ""])
 

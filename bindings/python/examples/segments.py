@@ -79,6 +79,8 @@ def main() -> None:
         sys.exit(__doc__.splitlines()[0])
     with open(sys.argv[2], "rb") as file:
         master = file.read()
+    if len(master) != 32:  # wrap takes keys of 16 and 24 bytes too, and this may be the beginning of one of 32
+        sys.exit("segments.py: KEYFILE is not 32 bytes long")
     try:
         calls[sys.argv[1]](master, os.fsencode(sys.argv[3]), sys.stdin.buffer, sys.stdout.buffer)
         sys.stdout.buffer.flush()

@@ -4,6 +4,7 @@ import builtins
 import ctypes
 import doctest
 import enum
+import gc
 import inspect
 import itertools
 import numbers
@@ -590,7 +591,8 @@ class Closing(unittest.TestCase):
                         self.assertEqual(buffer + tag, key.seal(NONCE, text, aad=b"aad"))
 
     def test_an_exception_that_ends_a_call_on_a_piece(self):
-        """Like one from a signal handler. Nobody knows whether the piece was taken, so the object is closed and gives no tag."""
+        """Like one from a signal handler. Nobody knows whether the piece was taken, so the object is closed and gives no tag. It may
+        be a Refused of another call that the handler made."""
         opener = Opener(Suite.AES_256_GCM, KEY, NONCE, SEALED[-16:], aad=b"aad")
         opener.check(SEALED[:-16])
         opener.begin_second()
@@ -604,7 +606,7 @@ class Closing(unittest.TestCase):
                  "opener_update": lambda: Opener.resume(Suite.AES_256_GCM, KEY, NONCE, second),
                  "siv_absorb": lambda: SivSealer(Suite.AES_256_GCM_SIV, KEY, NONCE),
                  "siv_update": lambda: SivSealer.resume(Suite.AES_256_GCM_SIV, KEY, NONCE, reading)}
-        for name, call in begin.items():
+        for (name, call), exception in itertools.product(begin.items(), (KeyboardInterrupt, aeadkit.TagMismatch, aeadkit.NotBegun)):
             method = name.split("_")[1]
             for way, piece in ((method, b"a piece"), (method, bytearray(b"a piece")), (f"{method}_in_place", bytearray(b"a piece"))):
                 state = call()
@@ -614,10 +616,10 @@ class Closing(unittest.TestCase):
 
                 def interrupted(*arguments):
                     real(*arguments)
-                    raise KeyboardInterrupt()
+                    raise exception()
 
                 with unittest.mock.patch.object(aeadkit._library, f"aeadkit_{name}", interrupted):
-                    self.assertRaises(KeyboardInterrupt, getattr(state, way), piece)
+                    self.assertRaises(exception, getattr(state, way), piece)
                 # the struct is wiped too, in case a call of another thread waits for it
                 self.assertEqual(bytes(held._memory), bytes(len(bytes(held._memory))))
                 self.assertRaisesRegex(aeadkit.NotBegun, "closed", getattr(state, way), piece)
@@ -768,6 +770,44 @@ class Closing(unittest.TestCase):
                         goes_on(state)
                     except aeadkit.NotBegun:
                         pass
+
+    def test_a_finalizer_in_a_cycle(self):
+        """It may run after the finalizer of the struct, which wipes it. Then its call is refused."""
+        made = []
+
+        class Last:
+            def __del__(self):
+                try:
+                    made.append(self.call())
+                except aeadkit.NotBegun as fault:
+                    made.append(type(fault))
+
+        def seal(key):
+            return key.seal(NONCE, TEXT, aad=b"aad")
+
+        def finish(sealer):
+            return sealer.update(TEXT) + sealer.finish()
+
+        def save(sealer):
+            return Sealer.resume(Suite.AES_256_GCM, KEY, NONCE, sealer.save()).finish()
+
+        tag = Sealer(Suite.AES_256_GCM, KEY, NONCE, aad=b"aad").finish()
+        for begin, use, expected in [(lambda: Key(Suite.AES_256_GCM, KEY), seal, SEALED),
+                                     (lambda: Sealer(Suite.AES_256_GCM, KEY, NONCE, aad=b"aad"), finish, SEALED),
+                                     (lambda: Sealer(Suite.AES_256_GCM, KEY, NONCE, aad=b"aad"), save, tag)]:
+            # one of the two was there before the state, and one comes after it
+            first, state, second = Last(), begin(), Last()
+            state.circle = [first, second, state]
+            memory = state._struct._memory
+            for last in (first, second):
+                last.call = lambda use=use, state=state: use(state)
+            del first, state, second, last
+            gc.collect()
+            gc.collect()
+            self.assertEqual(len(made), 2)
+            self.assertLessEqual(set(made), {expected, aeadkit.NotBegun})
+            self.assertEqual(bytes(memory), bytes(len(bytes(memory))))
+            made.clear()
 
     def test_an_exception_keeps_no_key(self):
         """A struct is wiped with its object, even if a traceback holds the frames of a refused call."""

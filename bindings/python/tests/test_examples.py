@@ -2,6 +2,7 @@
 
 import importlib.util
 import io
+import itertools
 import os
 import pathlib
 import resource
@@ -10,6 +11,7 @@ import sys
 import tempfile
 import unittest
 import unittest.mock
+from concurrent.futures import ThreadPoolExecutor
 
 import aeadkit
 
@@ -24,7 +26,40 @@ def example(name):
     return module
 
 
+class Keys(unittest.TestCase):
+    def test_a_batch_without_records(self):
+        """Nothing of it is authenticated: all records of another batch may have been cut off."""
+        keys = example("keys")
+        ring = keys.KeyRing()
+        with ThreadPoolExecutor(2) as pool:
+            self.assertRaises(ValueError, ring.seal, "letters", [], pool)
+            batch = ring.seal("letters", [b"one", b"two"], pool)
+            self.assertEqual(ring.open(batch, pool), [b"one", b"two"])
+            self.assertRaises(aeadkit.TagMismatch, ring.open, batch._replace(sealed=[]), pool)
+
+
+class Vectors(unittest.TestCase):
+    def test_without_assert_statements(self):
+        """Nothing would be compared, and the status would be 0."""
+        for option in ("-O", "-OO"):
+            made = subprocess.run([sys.executable, "-B", option, str(EXAMPLES / "vectors.py")], stderr=subprocess.PIPE)
+            self.assertEqual(made.returncode, 1)
+            self.assertIn(b"vectors.py: ", made.stderr)
+
+
 class Segments(unittest.TestCase):
+    def test_a_key_of_another_length(self):
+        """A key of 16 or 24 bytes wraps too, and may be the beginning of one that was cut."""
+        with tempfile.TemporaryDirectory() as folder:
+            key = os.path.join(folder, "key")
+            for call, length in itertools.product(("seal", "open"), (0, 16, 24, 31, 33, 64)):
+                with open(key, "wb") as file:
+                    file.write(bytes(length))
+                made = subprocess.run([sys.executable, "-B", str(EXAMPLES / "segments.py"), call, key, "label"], input=b"text",
+                                      stdout=subprocess.PIPE, stderr=subprocess.PIPE)
+                self.assertEqual((made.returncode, made.stdout), (1, b""))
+                self.assertEqual(made.stderr.strip(), b"segments.py: KEYFILE is not 32 bytes long")
+
     def test_a_pipe_that_does_not_wait(self):
         """A read from a pipe that a parent made non-blocking may give nothing before the end: this is not the end."""
         segments, master = example("segments"), bytes(range(32))
@@ -85,13 +120,13 @@ class Resume(unittest.TestCase):
     def test_another_text_after_a_restart(self):
         """Pieces of two texts would be sealed as one text."""
         resume, key, text = example("resume"), bytes(range(32)), bytes(range(256)) * 12_000
-        for change in ("none", "contents", "length", "another file"):
+        for change in ("none", "contents", "length", "another file", "a file in its place"):
             with tempfile.TemporaryDirectory() as folder:
                 source, other, target = (os.path.join(folder, name) for name in ("source", "other", "target"))
                 for name in (source, other):
                     with open(name, "wb") as file:
                         file.write(text)
-                os.utime(source, (1, 1))
+                    os.utime(name, (1, 1))
                 steps, store = [], resume.store
 
                 def stops(path, step):
@@ -114,9 +149,35 @@ class Resume(unittest.TestCase):
                     with open(source, "ab") as file:
                         file.write(b"more")
                     os.utime(source, (1, 1))
+                elif change == "a file in its place":
+                    os.replace(other, source)
                 self.assertRaisesRegex(ValueError, "not as it was", resume.seal_file, key,
                                        other if change == "another file" else source, target)
                 self.assertTrue(os.path.exists(target + ".step"))
+
+    def test_another_text_between_two_pieces(self):
+        """IN may change at any time, and no piece of another text is sealed."""
+        resume, key, text = example("resume"), bytes(range(32)), bytes(range(256)) * 12_000
+        for turn in range(2, 5):
+            with tempfile.TemporaryDirectory() as folder:
+                source, target = os.path.join(folder, "source"), os.path.join(folder, "target")
+                with open(source, "wb") as file:
+                    file.write(text)
+                os.utime(source, (1, 1))
+                real, calls = resume.state_of, itertools.count(1)
+
+                def state_of(file):
+                    found = real(file)
+                    if next(calls) == turn:
+                        with open(source, "wb") as changed:
+                            changed.write(text[::-1])
+                    return found
+
+                with unittest.mock.patch.object(resume, "state_of", state_of):
+                    self.assertRaisesRegex(ValueError, "not as it was", resume.seal_file, key, source, target)
+                with open(target, "rb") as file:
+                    nonce, made = file.read(12), file.read()
+                self.assertTrue(aeadkit.seal(resume.SUITE, key, nonce, text).startswith(made))
 
 
 if __name__ == "__main__":

@@ -1,6 +1,7 @@
 """The import of the package with a library that does not fit."""
 
 import os
+import pathlib
 import shutil
 import subprocess
 import sys
@@ -10,6 +11,7 @@ import unittest
 import aeadkit
 from aeadkit import _library
 
+SOURCES = pathlib.Path(__file__).resolve().parent.parent
 FUNCTIONS = [name for name in dir(_library) if name.startswith("aeadkit_")]
 SIZES = {"sealer": 144, "opener": 192, "siv": 192, "key": 808}
 WIPES = [f"aeadkit_{name}_wipe" for name in SIZES]
@@ -79,6 +81,33 @@ class Library(unittest.TestCase):
         for name in ("aeadkit_seal", "aeadkit_siv_init_with", "aeadkit_status_text", "aeadkit_opener_wipe"):
             self.build(without=name)
             self.refused(f"no function {name}")
+
+    @unittest.skipUnless(shutil.which("cc"), "no cc")
+    def test_a_wheel_of_another_version(self):
+        """The wheel's name is the version of the package, and both builds of the library have it too."""
+        prefix = pathlib.Path(self.file).parent
+        folder, lib, out = prefix / "share/aeadkit/python", prefix / "lib", prefix / "out"
+        base, fast = lib / "libaeadkit.so.3", lib / "glibc-hwcaps/x86-64-v3/libaeadkit.so.3"
+        for made in (folder / "aeadkit", fast.parent, out):
+            made.mkdir(parents=True)
+        for name in ("__init__.py", "_library.py", "py.typed"):
+            shutil.copy(str(SOURCES / "aeadkit" / name), str(folder / "aeadkit"))
+        shutil.copy(str(SOURCES / "backend.py"), str(folder))
+        text = (SOURCES / "pyproject.toml").read_text()
+        (folder / "pyproject.toml").write_text(text.replace('"0.0.0"', '"3.1.2"'))
+        environment = {name: value for name, value in os.environ.items() if name != "AEADKIT_PREFIX"}
+        for versions in ((30102, 30102), (30101, 30102), (30102, 30200)):
+            for target, version in zip((base, fast), versions):
+                self.build(version=version)
+                shutil.copy(self.file, str(target))
+            made = subprocess.run([sys.executable, "-B", str(folder / "backend.py"), str(out)], env=environment,
+                                  stdout=subprocess.PIPE, stderr=subprocess.PIPE, universal_newlines=True)
+            if versions[0] == versions[1]:
+                self.assertEqual((made.returncode, made.stderr), (0, ""))
+                (out / made.stdout.strip()).unlink()
+                continue
+            self.assertEqual((made.returncode, made.stdout, list(out.iterdir())), (1, "", []))
+            self.assertIn("3.1.1" if versions[0] == 30101 else "3.2.0", made.stderr)
 
     @unittest.skipUnless(shutil.which("cc"), "no cc")
     def test_a_status_that_the_package_does_not_know(self):

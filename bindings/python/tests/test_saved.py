@@ -3,6 +3,7 @@
 import copy
 import importlib.util
 import inspect
+import itertools
 import os
 import pathlib
 import subprocess
@@ -10,6 +11,7 @@ import sys
 import tempfile
 import time
 import unittest
+import unittest.mock
 from concurrent.futures import ThreadPoolExecutor
 
 import aeadkit
@@ -243,6 +245,97 @@ class Saved(unittest.TestCase):
             resumed, length = Sealer.resume(Suite.CHACHA20_POLY1305, KEY, NONCE, saved), 100 * len(pieces)
             if length + 100 <= len(expected):
                 self.assertEqual(resumed.update(bytes(100)), expected[length:length + 100])
+
+    def test_what_runs_while_a_state_is_saved(self):
+        """A signal handler, or the __del__ of another object, may run at any step of save. What it does to the object comes before
+        the saved state, or is refused. If it raises an exception, the object is closed or goes on, and there are no saved bytes."""
+        stream = {suite: aeadkit.seal(suite, KEY, NONCE, bytes(1000))[:-16] for suite in (1, 6)}
+
+        class Stop(Exception):
+            pass
+
+        def sealing():
+            return Sealer(1, KEY, NONCE)
+
+        def reading():
+            siv = SivSealer(6, KEY, NONCE)
+            siv.absorb(bytes(1000))
+            siv.begin_second()
+            return siv
+
+        def update(state, pieces, saved):
+            pieces.append(state.update(bytes(100)))
+
+        def save(state, pieces, saved):
+            saved.append(state.save())
+
+        def close(state, pieces, saved):
+            state.close()
+
+        def stop(state, pieces, saved):
+            raise Stop()
+
+        def update_and_stop(state, pieces, saved):
+            try:
+                update(state, pieces, saved)
+            finally:
+                raise Stop()
+
+        for begin, meanwhile in itertools.product((sealing, reading), (update, save, close, stop, update_and_stop)):
+            for number in itertools.count(1):
+                state, pieces, saved, steps, is_over = begin(), [], [], itertools.count(1), True
+                # an exception comes at the beginning of a line, since a trace of Python 3.8 and 3.9 cannot raise one elsewhere
+                kind = "line" if meanwhile in (stop, update_and_stop) else "opcode"
+                sys._getframe().f_trace_opcodes = True  # Python 3.12 wants this before settrace
+
+                def trace(frame, event, argument):
+                    nonlocal is_over
+                    if frame.f_code.co_filename != aeadkit.__file__ or frame.f_code.co_name == "__del__":
+                        return None
+                    frame.f_trace_opcodes = kind == "opcode"
+                    if event == kind and next(steps) == number:
+                        is_over = False
+                        try:
+                            meanwhile(state, pieces, saved)
+                        except aeadkit.NotBegun:
+                            pass
+                    return trace
+
+                suite, before = state.suite, sys.gettrace()
+                try:
+                    sys.settrace(trace)
+                    saved.append(state.save())
+                except (Stop, aeadkit.NotBegun):
+                    pass
+                finally:
+                    sys.settrace(before)
+                self.assertLessEqual(len(saved), 1)
+                if saved or meanwhile is close:
+                    self.assertRaises(aeadkit.NotBegun, state.update, bytes(100))
+                for made in saved:
+                    pieces.append(type(state).resume(suite, KEY, NONCE, made).update(bytes(100)))
+                try:
+                    pieces.append(state.update(bytes(100)))
+                except aeadkit.NotBegun:
+                    pass
+                self.assertEqual(b"".join(pieces), stream[suite][:100 * len(pieces)], (begin, meanwhile, number))
+                state.close()
+                if is_over:
+                    self.assertGreater(number, 10)
+                    break
+
+    def test_a_refused_save(self):
+        """The object is as before."""
+        sealer = Sealer(1, KEY, NONCE)
+        made = sealer.update(TEXT[:100])
+
+        def missing(*arguments):
+            raise NotImplementedError()
+
+        for save in (missing, lambda *arguments: 15):
+            with unittest.mock.patch.object(Sealer, "_saved", Sealer._saved._replace(save=save)):
+                self.assertRaises((NotImplementedError, aeadkit.NotBegun), sealer.save)
+        self.assertEqual(made + sealer.update(TEXT[100:]) + sealer.finish(), aeadkit.seal(1, KEY, NONCE, TEXT))
 
     def test_a_subclass(self):
         class Counting(Sealer):
