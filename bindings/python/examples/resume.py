@@ -37,7 +37,7 @@ def store(path: str, step: object) -> None:
 def state_of(file: BinaryIO) -> List[int]:
     """What differs after a file was changed, or if it is another one."""
     found = os.fstat(file.fileno())
-    return [found.st_dev, found.st_ino, found.st_size, found.st_mtime_ns]
+    return [found.st_ino, found.st_size, found.st_mtime_ns]  # a device may have another number after a restart
 
 
 def seal_file(key: bytes, source_name: str, target_name: str) -> None:
