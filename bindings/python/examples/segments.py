@@ -13,6 +13,7 @@ the text and no more: throw it away unless the status is 0. A program that fails
 too, which is sealed like a whole text: look at its status as well.
 """
 
+import errno
 import os
 import sys
 from typing import BinaryIO, Iterator, Tuple
@@ -59,6 +60,16 @@ def write(target: BinaryIO, data: bytes) -> None:
         left = left[taken:]
 
 
+def settle(file: int) -> None:
+    """Waits until what was written is on the disk. Some file systems, such as NFS, say only then that it has no room for it."""
+    try:
+        os.fsync(file)
+    except OSError as fault:
+        if fault.errno not in (errno.EINVAL, errno.EROFS):  # of a pipe or a terminal
+            raise
+    os.close(os.dup(file))
+
+
 def seal(master: bytes, label: bytes, source: BinaryIO, target: BinaryIO) -> None:
     secret = os.urandom(32)
     write(target, wrap(master, secret))
@@ -84,6 +95,7 @@ def main() -> None:
     try:
         calls[sys.argv[1]](master, os.fsencode(sys.argv[3]), sys.stdin.buffer, sys.stdout.buffer)
         sys.stdout.buffer.flush()
+        settle(sys.stdout.fileno())
     except (Refused, OSError) as fault:
         sys.exit(f"segments.py: {fault}")
 

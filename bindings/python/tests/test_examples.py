@@ -6,6 +6,7 @@ import itertools
 import os
 import pathlib
 import resource
+import shutil
 import subprocess
 import sys
 import tempfile
@@ -113,6 +114,28 @@ class Segments(unittest.TestCase):
                     made = subprocess.run(program, input=bytes(2_000_000), stdout=file, stderr=subprocess.PIPE,
                                           preexec_fn=lambda: resource.setrlimit(resource.RLIMIT_FSIZE, (size, size)))
                 self.assertEqual(made.returncode, 1)
+                self.assertIn(b"segments.py: ", made.stderr)
+
+    @unittest.skipUnless(shutil.which("cc"), "no cc")
+    def test_an_output_that_fails_at_its_end(self):
+        """NFS takes each write, and says that the disk is full when the file is synchronized or closed."""
+        fails = "{ errno = EDQUOT; return -1; }"
+        functions = (f"int fsync(int file) {fails}",
+                     "int close(int file) { struct stat one, out; int both = !fstat(file, &one) && !fstat(1, &out);"
+                     f"syscall(SYS_close, file); if (both && one.st_ino == out.st_ino) {fails} return 0; }}")
+        header = "#include <errno.h>\n#include <sys/stat.h>\n#include <sys/syscall.h>\nlong syscall(long, ...);\n"
+        with tempfile.TemporaryDirectory() as folder:
+            key, sealed, shim = (os.path.join(folder, name) for name in ("key", "sealed", "shim.so"))
+            with open(key, "wb") as file:
+                file.write(bytes(32))
+            for function in functions:
+                subprocess.run(["cc", "-shared", "-fPIC", "-x", "c", "-", "-o", shim], input=(header + function).encode(),
+                               check=True)
+                program = [sys.executable, "-B", str(EXAMPLES / "segments.py"), "seal", key, "label"]
+                with open(sealed, "wb") as file:
+                    made = subprocess.run(program, input=b"text", stdout=file, stderr=subprocess.PIPE,
+                                          env={**os.environ, "LD_PRELOAD": shim})
+                self.assertEqual(made.returncode, 1, function)
                 self.assertIn(b"segments.py: ", made.stderr)
 
 
