@@ -17,7 +17,9 @@ The associated data, aad, is neither hidden nor stored in the sealing, but openi
 there whatever says which text it is. Keys, nonces, associated data and texts are bytes, or any object that gives its bytes:
 bytearray, memoryview, array.array, mmap.mmap, an array of numpy. Anything else is a TypeError, and so is an object whose bytes
 are addresses, such as a ctypes.c_char_p or an array of objects: for a c_char_p take its value. An argument that is not bytes is
-copied before the call uses it, so another thread may write to it meanwhile. Results are bytes.
+copied before the call uses it: if another thread writes to it meanwhile, the sealing is that of the copy. A call that is handed
+to another thread, by pool.submit or asyncio.to_thread, makes this copy only when it runs there: leave the buffer as it is until
+the result has come, or hand over bytes(buffer). Results are bytes.
 
 The calls whose names end in in_place change a writable buffer where it stands, such as a bytearray, and do not copy it. A slice
 of a bytearray, as in data[1:5], is a copy, and what the call makes of it is lost: pass memoryview(data)[1:5]. No other thread
@@ -28,14 +30,16 @@ the text already. A sealing or an opening in pieces is closed if such an excepti
 whether the piece was taken. From Python 3.11 on this also holds if two signals come during a call, whose handlers raise an
 exception each; of three nothing is promised. Python before 3.11 may also raise it between the end of a call and the next step
 of the caller, and a task that is cancelled while it waits for a call in another thread does not get the result either. The
-result is lost then, though the call was done: close the object, and begin anew under another nonce.
+result is lost then, though the call was done: close the object, and begin anew under another nonce. Neither a cancellation nor
+a timeout stops the call in the other thread: until it returns it may still change the buffer of a call in place, which must not
+be used for anything else meanwhile.
 
 A nonce is 12 bytes long. It is not secret, but it must never be used for two sealings under one key, and nothing here notices a
 repeat. Two sealings with one nonce give away the XOR of their texts, and enough to forge messages under the key; under
 AES-GCM-SIV only whether the texts and the associated data are the same. A sealing in pieces uses its nonce up even if it is not
-finished. A counter does not repeat if it is stored before it is used. But a fork copies a counter, so that both processes would
-use the same nonces: give each process a key of its own, or a part of the nonce. Random nonces serve for at most 2^32 sealings
-under a key (SP 800-38D, 8.3).
+finished. A counter does not repeat if it is stored before it is used, and if threads that share it read and store it under one
+lock. But a fork copies a counter, so that both processes would use the same nonces: give each process a key of its own, or a part
+of the nonce. Random nonces serve for at most 2^32 sealings under a key (SP 800-38D, 8.3).
 
 A call that is refused raises a subclass of Refused. Faults of a suite and of lengths are ValueErrors too. A with statement over
 a sealing or an opening in pieces raises NotFinished if it ends before finish, save or close, and without another exception. If
@@ -654,9 +658,10 @@ class _InPieces(_HasStruct):
 class Key(_HasStruct):
     """A suite with a key, whose key schedule is made once.
 
-    Threads may share a Key, and a forked process may use it too, but not with the same nonces: a fork copies a counter of
-    nonces. A Key does not change once it is made, and its copy is the Key itself. It cannot be pickled, since the key would be
-    written to the pickle. It is wiped when it is closed or deleted.
+    Threads may share a Key, but two of them must not read a counter of nonces before either has stored the next number: a lock
+    is needed. A forked process may use a Key too, but not with the same nonces: a fork copies a counter. A Key does not change
+    once it is made, and its copy is the Key itself. It cannot be pickled, since the key would be written to the pickle. It is
+    wiped when it is closed or deleted.
 
     Raises UnknownSuite or KeyLength.
     """

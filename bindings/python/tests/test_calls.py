@@ -16,6 +16,7 @@ import threading
 import unittest
 import unittest.mock
 import warnings
+from concurrent.futures import ThreadPoolExecutor
 
 import aeadkit
 from aeadkit import Key, Opener, Sealer, SivSealer, Suite
@@ -885,6 +886,23 @@ class Names(unittest.TestCase):
                   SivSealer.update_in_place, Suite.named]
         for call in nonced + others:
             self.assertRegex(inspect.getdoc(call), f"(?s)Raises.*({'|'.join(faults)})", call)
+
+    def test_the_help_says_what_threads_owe(self):
+        """A pool copies a buffer when the call runs, a call goes on after a timeout, and a counter that is stored before it is used
+        repeats between threads."""
+        words = " ".join(aeadkit.__doc__.split())
+        for part in ("by pool.submit or asyncio.to_thread, makes this copy only when it runs there: leave the buffer as it is",
+                     "Neither a cancellation nor a timeout stops the call in the other thread: until it returns it may still change",
+                     "and if threads that share it read and store it under one lock"):
+            self.assertIn(part, words)
+        self.assertRegex(inspect.getdoc(Key), "(?s)Threads may share a Key, but.*a lock\\s+is needed")
+        key, free, buffer = Key(Suite.AES_256_GCM, KEY), threading.Event(), bytearray(b"first")
+        with ThreadPoolExecutor(1) as pool:
+            pool.submit(free.wait)
+            sealed, copied = (pool.submit(key.seal, NONCE, text) for text in (buffer, bytes(buffer)))
+            buffer[:] = b"other"
+            free.set()
+        self.assertEqual([key.open(NONCE, made.result()) for made in (sealed, copied)], [b"other", b"first"])
 
     def test_the_example_of_the_help(self):
         self.assertEqual(doctest.testmod(aeadkit).failed, 0)
