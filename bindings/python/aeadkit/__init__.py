@@ -22,17 +22,19 @@ to another thread, by pool.submit or asyncio.to_thread, makes this copy only whe
 the result has come, or hand over bytes(buffer). Results are bytes.
 
 The calls whose names end in in_place change a writable buffer where it stands, such as a bytearray, and do not copy it. A slice
-of a bytearray, as in data[1:5], is a copy, and what the call makes of it is lost: pass memoryview(data)[1:5]. No other thread
-or process may read or write the buffer during such a call: an opening could otherwise give a text that was never sealed. The
-tag of 16 bytes is separate; the ciphertext and then the tag are the sealing that open takes. If an exception from a signal
-handler, such as KeyboardInterrupt, ends the call, the buffer of seal_in_place is as before, and that of open_in_place may hold
-the text already. A sealing or an opening in pieces is closed if such an exception ends its call on a piece, since nobody knows
-whether the piece was taken. From Python 3.11 on this also holds if two signals come during a call, whose handlers raise an
-exception each; of three nothing is promised. Python before 3.11 may also raise it between the end of a call and the next step
-of the caller, and a task that is cancelled while it waits for a call in another thread does not get the result either. The
-result is lost then, though the call was done: close the object, and begin anew under another nonce. Neither a cancellation nor
-a timeout stops the call in the other thread: until it returns it may still change the buffer of a call in place, which must not
-be used for anything else meanwhile.
+of a bytearray or an array.array, as in data[1:5], is a copy, and what the call makes of it is lost: pass memoryview(data)[1:5].
+Another process of a pool gets a copy too, and ravel, reshape and ascontiguousarray of numpy return a copy of some arrays. No
+other thread or process may read or write the buffer during such a call: an opening could otherwise give a text that was never
+sealed. The tag of 16 bytes is separate; the ciphertext and then the tag are the sealing that open takes.
+
+If an exception from a signal handler, such as KeyboardInterrupt, ends the call, the buffer of seal_in_place is as before, and
+that of open_in_place may hold the text already. A sealing or an opening in pieces is closed if such an exception ends its call
+on a piece, since nobody knows whether the piece was taken. From Python 3.11 on this also holds if two signals come during a
+call, whose handlers raise an exception each; of three nothing is promised. Python before 3.11 may also raise it between the end
+of a call and the next step of the caller, and a task that is cancelled while it waits for a call in another thread does not get
+the result either. The result is lost then, though the call was done: close the object, and begin anew under another nonce.
+Neither a cancellation nor a timeout stops the call in the other thread: until it returns it may still change the buffer of a
+call in place, which must not be used for anything else meanwhile.
 
 A nonce is 12 bytes long. It is not secret, but it must never be used for two sealings under one key, and nothing here notices a
 repeat. Two sealings with one nonce give away the XOR of their texts, and enough to forge messages under the key; under

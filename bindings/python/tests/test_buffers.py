@@ -160,6 +160,17 @@ class Buffers(unittest.TestCase):
         made = key.seal_in_place(NONCE, whole, aad=whole)
         self.assertEqual(whole + made, key.seal(NONCE, TEXT, aad=TEXT))
 
+    def test_in_place_over_a_copy(self):
+        """What the call makes of a copy is lost without notice, as the help says for each kind of copy."""
+        key, text = Key(SUITE, KEY), array.array("B", TEXT)
+        key.seal_in_place(NONCE, text[1:5])
+        self.assertEqual(text.tobytes(), TEXT)
+        key.seal_in_place(NONCE, memoryview(text)[1:5])
+        self.assertNotEqual(text.tobytes(), TEXT)
+        for words in ("A slice of a bytearray or an array.array", "Another process of a pool gets a copy too",
+                      "ravel, reshape and ascontiguousarray of numpy"):
+            self.assertIn(words, " ".join(aeadkit.__doc__.split()))
+
     def test_in_place_of_each_length(self):
         for suite in Suite:
             key = Key(suite, KEY[: suite.key_bytes])
