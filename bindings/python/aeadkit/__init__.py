@@ -29,12 +29,13 @@ sealed. The tag of 16 bytes is separate; the ciphertext and then the tag are the
 
 If an exception from a signal handler, such as KeyboardInterrupt, ends the call, the buffer of seal_in_place is as before, and
 that of open_in_place may hold the text already. A sealing or an opening in pieces is closed if such an exception ends its call
-on a piece, since nobody knows whether the piece was taken. From Python 3.11 on this also holds if two signals come during a
-call, whose handlers raise an exception each; of three nothing is promised. Python before 3.11 may also raise it between the end
-of a call and the next step of the caller, and a task that is cancelled while it waits for a call in another thread does not get
-the result either. The result is lost then, though the call was done: close the object, and begin anew under another nonce.
-Neither a cancellation nor a timeout stops the call in the other thread: until it returns it may still change the buffer of a
-call in place, which must not be used for anything else meanwhile.
+on a piece, since nobody knows whether the piece was taken. A with statement over it raises NotFinished, unless the exception
+leaves the statement too or close was called. From Python 3.11 on this also holds if two signals come during a call, whose
+handlers raise an exception each; of three nothing is promised. Python before 3.11 may also raise it between the end of a call
+and the next step of the caller, and a task that is cancelled while it waits for a call in another thread does not get the
+result either. The result is lost then, though the call was done: close the object, and begin anew under another nonce. Neither
+a cancellation nor a timeout stops the call in the other thread: until it returns it may still change the buffer of a call in
+place, which must not be used for anything else meanwhile.
 
 A nonce is 12 bytes long. It is not secret, but it must never be used for two sealings under one key, and nothing here notices a
 repeat. Two sealings with one nonce give away the XOR of their texts, and enough to forge messages under the key; under
@@ -511,6 +512,8 @@ class _HasStruct:
     """The base of Key, Sealer, Opener and SivSealer: a struct of the library, once __init__ has begun it."""
 
     _struct: Optional[_Struct] = None
+    # whether an exception that ended a call has closed it, and nobody has since
+    _given_up = False
 
     @classmethod
     def _of(cls: Type[_Self], struct: _Struct) -> _Self:
@@ -534,7 +537,7 @@ class _HasStruct:
         """Wipes the memory that holds the key, after the last call in another thread that is using it. Each later call raises
         NotBegun. A with statement does this at its end, and so does the deletion of the object. A sealing or an opening in pieces
         is given up by this; a with statement that ends without an exception, and before finish, raises NotFinished."""
-        self._struct = None
+        self._struct, self._given_up = None, False
 
     def __enter__(self: _Self) -> _Self:
         return self
@@ -626,7 +629,7 @@ class _InPieces(_HasStruct):
         return self._unfinished and struct is not None and not struct.is_forked()
 
     def __exit__(self, kind: Optional[Type[BaseException]] = None, *exception: object) -> None:
-        unfinished = self._is_unfinished()
+        unfinished = self._is_unfinished() or self._given_up and self._struct is None
         self.close()
         if unfinished and kind is None:
             raise NotFinished()
@@ -649,6 +652,7 @@ class _InPieces(_HasStruct):
         struct = self._struct
         if status or struct is None or struct.is_forked():
             return
+        self._given_up = True
         self._struct = None
         with struct.lock:
             self._kind.wipe(struct)
@@ -831,6 +835,7 @@ class _Saves(_InPieces):
                 self._struct = held
                 raise
             except BaseException:
+                self._given_up = True
                 self._struct = None
                 self._kind.wipe(struct)
                 raise

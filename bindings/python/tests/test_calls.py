@@ -625,6 +625,18 @@ class Closing(unittest.TestCase):
                 self.assertEqual(bytes(held._memory), bytes(len(bytes(held._memory))))
                 self.assertRaisesRegex(aeadkit.NotBegun, "closed", getattr(state, way), piece)
                 self.assertRaisesRegex(aeadkit.NotBegun, "closed", state.finish)
+                # a with statement tells of it, if the exception goes no further and close does not follow
+                with unittest.mock.patch.object(aeadkit._library, f"aeadkit_{name}", interrupted):
+                    with self.assertRaises(aeadkit.NotFinished):
+                        with call() as state:
+                            self.assertRaises(exception, getattr(state, way), piece)
+                    with call() as state:
+                        self.assertRaises(exception, getattr(state, way), piece)
+                        state.close()
+                    with self.assertRaises(KeyError):
+                        with call() as state:
+                            self.assertRaises(exception, getattr(state, way), piece)
+                            raise KeyError()
                 if type(piece) is bytearray:
                     piece += b"more"
 
