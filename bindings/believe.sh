@@ -265,7 +265,9 @@ elif ! diff "$page" "$room/right" >&2; then
     exit 1
 fi
 # README names the lines of a suite, of all six, and of the vector file with its faults.
-for count in $(sed -n -e 's/^| a whole message under .*| \([0-9]*\) |$/\1/p' -e 's/^| the vector file and .*| \([0-9]*\) |$/\1/p' "$page"); do
+counts=$(sed -n -e 's/^| a whole message under .*| \([0-9]*\) |$/\1/p' -e 's/^| the vector file and .*| \([0-9]*\) |$/\1/p' "$page")
+[ -n "$counts" ] || { echo "$page has no row whose lines README.md names" >&2; exit 1; }
+for count in $counts; do
     grep -q "[^0-9]$count[^0-9]" README.md || { echo "README.md does not name the $count lines that $page has" >&2; exit 1; }
 done
 tail -n 1 "$room/page"

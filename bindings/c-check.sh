@@ -34,8 +34,10 @@ for compiler in cc gcc clang; do
         done
     fi
 done
+also=" on (left out: C++, no c++)"
 for compiler in c++ g++ clang++; do
     if "$compiler" -x c++ -fsyntax-only "$room/empty.c" > "$room/log" 2>&1; then
+        also=" and C++98 on"
         for standard in c++98 c++11 c++17; do
             "$compiler" -x c++ -std=$standard $warnings -Wcast-qual -Wconversion -fsyntax-only "$room/header.c"
         done
@@ -70,14 +72,14 @@ grep -oE 'aeadkit_[a-z_]+\(' "$prefix/include/aeadkit.h" | tr -d '(' | sort -u >
 grep -oE 'aeadkit_[a-z_]+' exports.map | sort -u | cmp - "$room/declared"
 macros=$(sed -n 's/^# *define *\([A-Za-z_]*\).*/\1/p' "$prefix/include/aeadkit.h" | sort -u | tr '\n' ' ')
 [ "$macros" = "AEADKIT_H AEADKIT_STATUS AEADKIT_VERSION " ] || { echo "the header defines $macros" >&2; exit 1; }
-echo "ok: the header, from C89 and C++98 on"
+echo "ok: the header, from C89$also"
 
 # The stack, over the archive, and over the shared library, of which the loader takes the build for AVX2 if it is there and the
 # processor has it.
 cc $strict -pthread c/stack.c "$out/libaeadkit.a" -Wl,-z,now -o "$room/stack"
 "$room/stack" || { echo "a call takes more stack than aeadkit.h says" >&2; exit 1; }
 cc $strict -pthread c/stack.c -L"$out" -laeadkit -Wl,-z,now -Wl,-rpath,"$out" -o "$room/stack-shared"
-"$room/stack-shared" || { echo "a call of the shared library takes more stack than aeadkit.h says" >&2; exit 1; }
+LD_LIBRARY_PATH=$out "$room/stack-shared" || { echo "a call of the shared library takes more stack than aeadkit.h says" >&2; exit 1; }
 echo "ok: no call takes more stack than aeadkit.h says"
 
 # Programs that are linked in other ways: with each kind of path to the shared library, and optimized as a whole over the archive.

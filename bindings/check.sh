@@ -10,7 +10,7 @@ if [ $# != 1 ]; then
   PREFIX    what build.sh laid out, whole or with --library
   --build   the library is laid out there first, if cc, nm and objcopy are there to build it
 It prints a line for each language, 'ok: ..', or 'left out: ..' if its compiler or interpreter is not there, and the same for
-the program. It refuses a PREFIX whose header is not that of the repository." >&2
+the program. It refuses a PREFIX whose header or whose packages are not those of the repository." >&2
     exit 2
 fi
 # What is checked is the library of PREFIX, whatever library or package the caller's environment names.
@@ -26,6 +26,7 @@ trap 'rm -rf "$room"' EXIT
 mkdir -p "$room/elsewhere/bindings"
 for script in quotations links believe; do
     (cd .. && CDPATH=$room/elsewhere "bindings/$script.sh")
+    ! "./$script.sh" "$room/elsewhere" > "$room/log" 2>&1 || { echo "$script.sh says ok of a folder without documents" >&2; exit 1; }
 done
 ./published.sh .. "$prefix/bin/aeadkit"
 if [ $build = yes ]; then
@@ -77,6 +78,11 @@ done
 echo "ok: $soname exports, as names of $node, $exported"
 
 if makes "$room/probe.c" cc; then
+    # The caller's LD_LIBRARY_PATH may lead to another library with this name. Here it leads to one whose calls end the program.
+    for name in $exported; do echo "void $name(void) { __builtin_trap(); }"; done > "$room/another.c"
+    mkdir "$room/another"
+    cc -shared -fPIC "$room/another.c" -Wl,-soname,"$soname" -Wl,--version-script=exports.map -o "$room/another/$soname"
+    export LD_LIBRARY_PATH="$room/another${LD_LIBRARY_PATH:+:$LD_LIBRARY_PATH}"
     cc -std=c11 -O2 $warnings $include c/calls.c "$out/libaeadkit.a" -o "$room/c"
     "$room/c"
     cc -std=c11 -O2 $warnings $include c/pieces.c "$out/libaeadkit.a" -o "$room/pieces"
@@ -97,8 +103,12 @@ if makes "$room/probe.c" cc; then
     for build in lib/libaeadkit.a lib/libaeadkit.so lib/x86-64-v3/libaeadkit.a lib/glibc-hwcaps/x86-64-v3/libaeadkit.so; do
         file=$prefix/$build
         [ -e "$file" ] || continue
-        cc $include "$room/version.c" "$file" -Wl,-rpath,"$(dirname "$file")" -o "$room/version"
-        "$room/version" || { echo "$build is not of version $version" >&2; exit 1; }
+        cc $include "$room/version.c" "$file" -o "$room/version"
+        # alone in a folder: beside the default library the loader would take the build for AVX2
+        rm -rf "$room/alone"
+        mkdir "$room/alone"
+        cp "$file" "$room/alone/$soname"
+        LD_LIBRARY_PATH=$room/alone "$room/version" || { echo "$build is not of version $version" >&2; exit 1; }
     done
     # So build.sh removes the builds that it does not make again before it builds anything. This is shown by an rt that fails. Here
     # too CDPATH leads nowhere.
@@ -149,6 +159,28 @@ touch "$room/laid/share/aeadkit/aeadkit-2.1.0-py3-none-linux_x86_64.whl"
 PATH=$room/no-python:$PATH ./packages.sh "$room/laid"
 [ -z "$(find "$room/laid/share/aeadkit" -name '*.whl')" ] || { echo "packages.sh leaves an earlier wheel" >&2; exit 1; }
 ./packages.sh "$room/laid"
+# The packages of PREFIX, if it has any, are those that are checked here. Otherwise, as after build.sh --library over an earlier PREFIX,
+# 'ok' would be said of other packages than those that users install from there: current CHECKED INSTALLED
+current() {
+    (cd "$1" && find . -type f) > "$room/files"
+    while read -r file; do
+        cmp -s "$1/$file" "$2/$file" || {
+            echo "the packages in $prefix/share/aeadkit are not those of this repository and its library, as $file shows:
+lay them out there first, by packages.sh, or by wasm.sh if the file is of the package for JavaScript" >&2
+            exit 1
+        }
+    done < "$room/files"
+}
+for package in rust python; do
+    [ ! -e "$prefix/share/aeadkit/$package" ] || current "$room/laid/share/aeadkit/$package" "$prefix/share/aeadkit/$package"
+done
+for wheel in "$prefix/share/aeadkit/"*.whl; do
+    [ -e "$wheel" ] && [ -n "$(find "$room/laid/share/aeadkit" -name '*.whl')" ] || continue
+    rm -rf "$room/checked" "$room/installed"
+    python3 -m zipfile -e "$room/laid/share/aeadkit/"aeadkit-*.whl "$room/checked"
+    python3 -m zipfile -e "$wheel" "$room/installed"
+    current "$room/checked" "$room/installed"
+done
 if ! python3 -c 'import ctypes' > "$room/log" 2>&1; then
     echo "left out: Python, no python3 with ctypes"
 elif python3 -m venv "$room/venv" > "$room/log" 2>&1 && "$room/venv/bin/python" -m pip --version > "$room/log" 2>&1; then
@@ -167,6 +199,7 @@ if [ -e "$prefix/$package/aeadkit.wasm" ]; then
     mkdir -p "$room/laid/$package"
     cp "$prefix/$package/aeadkit.wasm" "$room/laid/$package/"
     javascript .. "$room/laid/$package"
+    current "$room/laid/$package" "$prefix/$package"
     ./wasm-check.sh "$room/laid"
 else
     echo "left out: JavaScript, whose module is not in PREFIX"

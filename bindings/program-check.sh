@@ -196,8 +196,11 @@ key=$(cat ../key) suite=aes-256-gcm-siv nonce=000102030405060708090a0b aad=00 te
 export key suite nonce aad text source
 opens="the status of the step that failed:"
 "$prefix/bin/aeadkit" seal-file --suite $suite --key "$key" --nonce $nonce --in "../a text" --out backup.sealed
+echo "what another run writes" > backup.new
 pasted 0 COMMAND "$opens"
 cmp backup "../a text"
+[ "$(cat backup.new)" = "what another run writes" ] || { echo "the script of COMMAND.md writes where another run does" >&2; exit 1; }
+rm backup.new
 # Whatever step fails, backup stays as it was, and nothing else is left behind.
 echo earlier > backup
 kept() {

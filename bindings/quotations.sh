@@ -73,6 +73,7 @@ text ~ /From `[^`]+`:$/ {
 }
 END {
     end()
+    if (!total && !bad) wrong("the documents", "no quotation is there")
     close("cat >&2")
     if (bad) exit 1
     print "ok: " total + 0 " quotations agree with their files"

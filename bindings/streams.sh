@@ -108,6 +108,11 @@ cat vectors | ends 0 '' '' check /dev/stdin
 { read -r line; ends 0 '' '' seal-file $once --in /dev/stdin --out out; } < lines
 [ "$line" = 'a line' ] || fails "read takes $line"
 same out lines.once
+# A lone - is the name of a file, also as OUT, and not standard output.
+ends 0 '' '' seal-file $once --in text --out -
+same ./- once
+[ ! -s printed ] || fails "--out - prints"
+rm ./-
 ends 3 Read '' check -
 ends 2 Words '' check -vectors
 ends 2 Words '' check -heat.vectors
