@@ -40,15 +40,15 @@ class KeyRing:
         self.rotate()
 
     def rotate(self) -> None:
+        self.keys[self.newest + 1] = os.urandom(32)
         self.newest += 1
-        self.keys[self.newest] = os.urandom(32)
 
     def seal(self, name: str, records: List[bytes], pool: ThreadPoolExecutor) -> Batch:
         if not records:
             raise ValueError("a batch without records could not be told from one whose records were cut off")
-        data_key = os.urandom(32)
+        data_key, newest = os.urandom(32), self.newest  # read once: another thread may rotate meanwhile
         key = Key(Suite.AES_256_GCM, data_key)  # one object for all threads
-        batch = Batch(name, self.newest, wrap(self.keys[self.newest], data_key), [b""] * len(records))
+        batch = Batch(name, newest, wrap(self.keys[newest], data_key), [b""] * len(records))
 
         def seal_record(number: int) -> bytes:
             return key.seal(number.to_bytes(12, "big"), records[number], aad=batch.label(number))
@@ -68,7 +68,8 @@ class KeyRing:
     def rewrap(self, batch: Batch) -> Batch:
         """The batch with its data key under the newest key-encryption key, and the records as they are."""
         data_key = unwrap(self.keys[batch.wrapped_under], batch.wrapped_key)
-        return batch._replace(wrapped_under=self.newest, wrapped_key=wrap(self.keys[self.newest], data_key))
+        newest = self.newest
+        return batch._replace(wrapped_under=newest, wrapped_key=wrap(self.keys[newest], data_key))
 
 
 def main() -> None:
