@@ -81,6 +81,11 @@ if makes "$room/probe.c" cc; then
     "$room/c"
     cc -std=c11 -O2 $warnings $include c/pieces.c "$out/libaeadkit.a" -o "$room/pieces"
     "$room/pieces" 10000 100000
+    # From here on LD_LIBRARY_PATH leads to another library of this name, whose calls end the program: no check loads it.
+    mkdir "$room/other"
+    { echo '#include <stdlib.h>' && printf 'void %s(void) { abort(); }\n' $exported; } > "$room/other.c"
+    cc -shared -fPIC "$room/other.c" -Wl,-soname,"$soname" -Wl,--version-script=exports.map -o "$room/other/$soname"
+    export LD_LIBRARY_PATH="$room/other${LD_LIBRARY_PATH:+:$LD_LIBRARY_PATH}"
     ./c-check.sh "$prefix"
     if pkg-config --version > "$room/probe.log" 2>&1; then
         words=$(PKG_CONFIG_PATH=$out/pkgconfig pkg-config --cflags --libs aeadkit)
@@ -98,7 +103,7 @@ if makes "$room/probe.c" cc; then
         file=$prefix/$build
         [ -e "$file" ] || continue
         cc $include "$room/version.c" "$file" -Wl,-rpath,"$(dirname "$file")" -o "$room/version"
-        "$room/version" || { echo "$build is not of version $version" >&2; exit 1; }
+        (unset LD_LIBRARY_PATH && "$room/version") || { echo "$build is not of version $version" >&2; exit 1; }
     done
     # So build.sh removes the builds that it does not make again before it builds anything. This is shown by an rt that fails. Here
     # too CDPATH leads nowhere.
