@@ -119,11 +119,12 @@ for order in "-lby_the_other -lby_this" "-lby_this -lby_the_other"; do
     LD_LIBRARY_PATH=$room "$room/versions" \
         || { echo "of two archives in one process ($order) a caller gets the wrong one" >&2; exit 1; }
 done
-# Two versions in one program, without a shared library: a caller is joined with its archive, whose hidden names are then made
-# local. The joined object is linked, and then a static library of it. gcc joins also a caller that is compiled with -flto.
+# Two versions in one program, without a shared library: a caller is joined with its archive, whose names are then made local.
+# Other hidden names are not: a counter of the callers' own stays one. The joined object is linked, and then a static library of
+# it. gcc joins also a caller that is compiled with -flto.
 cc -c -DCALLER=by_the_other c/versions.c -o "$room/by_the_other.o"
 grep -q -e "cc -r -nostdlib CALLER.o libaeadkit.a -o JOINED.o" README.md
-grep -q -e "objcopy --localize-hidden" README.md
+grep -q -e "objcopy -w -L 'aeadkit_\*' -L 'AEADKIT_\*' JOINED.o" README.md
 join() {
     cc $1 -c -DCALLER=by_this c/versions.c -o "$room/by_this.o" \
         && cc -r -nostdlib "$room/by_this.o" "$out/libaeadkit.a" -o "$room/joined.o"
@@ -132,13 +133,16 @@ lto=-flto
 join $lto > "$room/log" 2>&1 || lto=
 for way in "" $lto; do
     join "$way" > "$room/log" 2>&1 || { cat "$room/log" >&2; exit 1; }
-    objcopy --localize-hidden "$room/joined.o"
+    objcopy -w -L 'aeadkit_*' -L 'AEADKIT_*' "$room/joined.o"
     rm -f "$room/libjoined.a"
     ar rc "$room/libjoined.a" "$room/joined.o"
     other=$room/by_the_other.o
     for order in "$room/joined.o $other" "$other $room/joined.o" "$other $room/libjoined.a" "$room/libjoined.a $other"; do
-        cc c/versions.c $order "$room/other/libaeadkit.a" -o "$room/versions"
-        "$room/versions" || { echo "of two archives in one program ($way $order) a caller gets the wrong one" >&2; exit 1; }
+        cc -DCOUNTED c/versions.c $order "$room/other/libaeadkit.a" -o "$room/versions"
+        "$room/versions" || {
+            echo "of two archives in one program ($way $order) a caller gets the wrong one, or a counter of its own" >&2
+            exit 1
+        }
     done
 done
 echo "ok: two versions of the library in one process, shared and as archives"
