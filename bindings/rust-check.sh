@@ -126,9 +126,9 @@ fn main() {
     println!("{:?}", aeadkit::seal_to_vec(aeadkit::Suite::Aes128Gcm, &[0; 16], &[0; 12], b"a text", aeadkit::Aad::empty()));
 }
 RUST
-# Wants the crate not to be linked: not_linked VARIABLE=VALUE WORD of the refusal
+# Wants the crate not to be linked: not_linked VARIABLE=VALUE WORD of the refusal [WORD of cargo]
 not_linked() {
-    ! (cd "$room/other" && env "$1" cargo build --quiet --offline) > "$room/log" 2>&1 \
+    ! (cd "$room/other" && env "$1" cargo build --quiet --offline ${3:-}) > "$room/log" 2>&1 \
         || { echo "the crate is linked with a library of another version" >&2; exit 1; }
     grep -q "$2" "$room/log" || { cat "$room/log" >&2; exit 1; }
 }
@@ -161,10 +161,14 @@ mv "$room/newer/lib/pkgconfig/aeadkit.pc" "$room/older/"
 (export AEADKIT_PREFIX="$room/newer" && in_crate other run)
 # The same after a build: a link that leads to another library now, and another folder that pkg-config finds.
 ln -s newer "$room/current"
-(export AEADKIT_PREFIX="$room/current" && in_crate other run)
+(export AEADKIT_PREFIX="$room/current" && in_crate other run && in_crate other run --release)
 ln -sfn newest "$room/current"
+# an older archive is taken in each profile after the step that README names
+grep -q '`touch` an older one' README.md
 touch "$room/newest/lib/libaeadkit.a"
-not_linked AEADKIT_PREFIX="$room/current" AEADKIT_3
+for profile in dev release; do
+    not_linked AEADKIT_PREFIX="$room/current" AEADKIT_3 --profile=$profile
+done
 sed -i "s|$prefix/share/aeadkit/rust|$room/aeadkit|" "$room/other/Cargo.toml"
 printf '#!/bin/sh\necho "$PKG_CONFIG_LIBDIR"\n' > "$room/pkg-config"
 chmod +x "$room/pkg-config"
