@@ -138,11 +138,13 @@ for way in "" $lto; do
     ar rc "$room/libjoined.a" "$room/joined.o"
     other=$room/by_the_other.o
     for order in "$room/joined.o $other" "$other $room/joined.o" "$other $room/libjoined.a" "$room/libjoined.a $other"; do
-        cc -DCOUNTED c/versions.c $order "$room/other/libaeadkit.a" -o "$room/versions"
-        "$room/versions" || {
-            echo "of two archives in one program ($way $order) a caller gets the wrong one, or a counter of its own" >&2
-            exit 1
-        }
+        for library in "$room/other/libaeadkit.a" "$room/other/libaeadkit.so"; do
+            cc -DCOUNTED c/versions.c $order "$library" -o "$room/versions"
+            LD_LIBRARY_PATH=$room/other "$room/versions" || {
+                echo "of two versions in one program ($way $order $library) a caller gets the wrong one, or a counter of its own" >&2
+                exit 1
+            }
+        done
     done
 done
 echo "ok: two versions of the library in one process, shared and as archives"
