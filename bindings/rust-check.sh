@@ -67,6 +67,11 @@ in_crate user test
 cp -R "$prefix/share/aeadkit/rust" "$room/aeadkit"
 (export AEADKIT_PREFIX="$prefix" && in_crate aeadkit test --doc && in_crate aeadkit doc)
 
+# The line of README runs the example in a copy. It refuses a folder that is there, since it would run the earlier copy in it.
+line=$(sed -n "s|FOLDER|$room/copied|g; s|^ *\(.*cargo run --offline --manifest-path .*\)|\1|p" README.md)
+(PREFIX=$prefix && eval "$line") > "$room/log" 2>&1 || { cat "$room/log" >&2; exit 1; }
+! (PREFIX=$prefix && eval "$line") > "$room/log" 2>&1 || { echo "the line of README runs an earlier copy" >&2; exit 1; }
+
 # What does not compile: a tag, a saved sealing or the part of an output that is the text, if it is dropped, a text exchanged with
 # its associated data, a key to wrap exchanged with the key that wraps it, a nonce of another length, a copy of a state, a sealing
 # that goes on after it was saved, and the calls of 2.1 that took room for a tag.
