@@ -269,7 +269,7 @@ cmp "$room/text" "$folder/opened"
 # The wrapping: of keys of each length, and with padding; each byte of it is changed.
 for key in 16 24 32; do
     head -c $key /dev/urandom > "$room/user-key"
-    for size in 16 24 32 40 4088; do
+    for size in 16 24 32 40 4088 4096; do
         head -c $size /dev/urandom > "$room/text"
         does 0 "$room/wrap" wrap "$room/user-key" < "$room/text"
         cp "$room/out" "$room/wrapped"
@@ -277,7 +277,7 @@ for key in 16 24 32; do
         does 0 "$room/wrap" unwrap "$room/user-key" < "$room/wrapped"
         cmp "$room/text" "$room/out"
     done
-    for size in 1 7 8 9 32 4087; do
+    for size in 1 7 8 9 32 4087 4096; do
         head -c $size /dev/urandom > "$room/text"
         does 0 "$room/wrap" wrap-padded "$room/user-key" < "$room/text"
         cp "$room/out" "$room/wrapped"
