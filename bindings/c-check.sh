@@ -79,7 +79,7 @@ echo "ok: the header, from C89$also"
 cc $strict -pthread c/stack.c "$out/libaeadkit.a" -Wl,-z,now -o "$room/stack"
 "$room/stack" || { echo "a call takes more stack than aeadkit.h says" >&2; exit 1; }
 cc $strict -pthread c/stack.c -L"$out" -laeadkit -Wl,-z,now -Wl,-rpath,"$out" -o "$room/stack-shared"
-LD_LIBRARY_PATH=$out "$room/stack-shared" || { echo "a call of the shared library takes more stack than aeadkit.h says" >&2; exit 1; }
+(unset LD_LIBRARY_PATH && "$room/stack-shared") || { echo "a call of the shared library takes more stack than aeadkit.h says" >&2; exit 1; }
 echo "ok: no call takes more stack than aeadkit.h says"
 
 # Programs that are linked in other ways: with each kind of path to the shared library, and optimized as a whole over the archive.
@@ -121,11 +121,12 @@ for order in "-lby_the_other -lby_this" "-lby_this -lby_the_other"; do
     LD_LIBRARY_PATH=$room "$room/versions" \
         || { echo "of two archives in one process ($order) a caller gets the wrong one" >&2; exit 1; }
 done
-# Two versions in one program, without a shared library: a caller is joined with its archive, whose hidden names are then made
-# local. The joined object is linked, and then a static library of it. gcc joins also a caller that is compiled with -flto.
+# Two versions in one program, without a shared library: a caller is joined with its archive, whose names are then made local.
+# Other hidden names are not: a counter of the callers' own stays one. The joined object is linked, and then a static library of
+# it. gcc joins also a caller that is compiled with -flto.
 cc -c -DCALLER=by_the_other c/versions.c -o "$room/by_the_other.o"
 grep -q -e "cc -r -nostdlib CALLER.o libaeadkit.a -o JOINED.o" README.md
-grep -q -e "objcopy --localize-hidden" README.md
+grep -q -e "objcopy -w -L 'aeadkit_\*' -L 'AEADKIT_\*' JOINED.o" README.md
 join() {
     cc $1 -c -DCALLER=by_this c/versions.c -o "$room/by_this.o" \
         && cc -r -nostdlib "$room/by_this.o" "$out/libaeadkit.a" -o "$room/joined.o"
@@ -134,13 +135,18 @@ lto=-flto
 join $lto > "$room/log" 2>&1 || lto=
 for way in "" $lto; do
     join "$way" > "$room/log" 2>&1 || { cat "$room/log" >&2; exit 1; }
-    objcopy --localize-hidden "$room/joined.o"
+    objcopy -w -L 'aeadkit_*' -L 'AEADKIT_*' "$room/joined.o"
     rm -f "$room/libjoined.a"
     ar rc "$room/libjoined.a" "$room/joined.o"
     other=$room/by_the_other.o
     for order in "$room/joined.o $other" "$other $room/joined.o" "$other $room/libjoined.a" "$room/libjoined.a $other"; do
-        cc c/versions.c $order "$room/other/libaeadkit.a" -o "$room/versions"
-        "$room/versions" || { echo "of two archives in one program ($way $order) a caller gets the wrong one" >&2; exit 1; }
+        for library in "$room/other/libaeadkit.a" "$room/other/libaeadkit.so"; do
+            cc -DCOUNTED c/versions.c $order "$library" -o "$room/versions"
+            LD_LIBRARY_PATH=$room/other "$room/versions" || {
+                echo "of two versions in one program ($way $order $library) a caller gets the wrong one, or a counter of its own" >&2
+                exit 1
+            }
+        done
     done
 done
 echo "ok: two versions of the library in one process, shared and as archives"
@@ -265,7 +271,7 @@ cmp "$room/text" "$folder/opened"
 # The wrapping: of keys of each length, and with padding; each byte of it is changed.
 for key in 16 24 32; do
     head -c $key /dev/urandom > "$room/user-key"
-    for size in 16 24 32 40 4088; do
+    for size in 16 24 32 40 4088 4096; do
         head -c $size /dev/urandom > "$room/text"
         does 0 "$room/wrap" wrap "$room/user-key" < "$room/text"
         cp "$room/out" "$room/wrapped"
@@ -273,7 +279,7 @@ for key in 16 24 32; do
         does 0 "$room/wrap" unwrap "$room/user-key" < "$room/wrapped"
         cmp "$room/text" "$room/out"
     done
-    for size in 1 7 8 9 32 4087; do
+    for size in 1 7 8 9 32 4087 4096; do
         head -c $size /dev/urandom > "$room/text"
         does 0 "$room/wrap" wrap-padded "$room/user-key" < "$room/text"
         cp "$room/out" "$room/wrapped"

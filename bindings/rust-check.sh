@@ -67,6 +67,11 @@ in_crate user test
 cp -R "$prefix/share/aeadkit/rust" "$room/aeadkit"
 (export AEADKIT_PREFIX="$prefix" && in_crate aeadkit test --doc && in_crate aeadkit doc)
 
+# The line of README runs the example in a copy. It refuses a folder that is there, since it would run the earlier copy in it.
+line=$(sed -n "s|FOLDER|$room/copied|g; s|^ *\(.*cargo run --offline --manifest-path .*\)|\1|p" README.md)
+(PREFIX=$prefix && eval "$line") > "$room/log" 2>&1 || { cat "$room/log" >&2; exit 1; }
+! (PREFIX=$prefix && eval "$line") > "$room/log" 2>&1 || { echo "the line of README runs an earlier copy" >&2; exit 1; }
+
 # What does not compile: a tag, a saved sealing or the part of an output that is the text, if it is dropped, a text exchanged with
 # its associated data, a key to wrap exchanged with the key that wraps it, a nonce of another length, a copy of a state, a sealing
 # that goes on after it was saved, and the calls of 2.1 that took room for a tag.
@@ -126,9 +131,9 @@ fn main() {
     println!("{:?}", aeadkit::seal_to_vec(aeadkit::Suite::Aes128Gcm, &[0; 16], &[0; 12], b"a text", aeadkit::Aad::empty()));
 }
 RUST
-# Wants the crate not to be linked: not_linked VARIABLE=VALUE WORD of the refusal
+# Wants the crate not to be linked: not_linked VARIABLE=VALUE WORD of the refusal [WORD of cargo]
 not_linked() {
-    ! (cd "$room/other" && env "$1" cargo build --quiet --offline) > "$room/log" 2>&1 \
+    ! (cd "$room/other" && env "$1" cargo build --quiet --offline ${3:-}) > "$room/log" 2>&1 \
         || { echo "the crate is linked with a library of another version" >&2; exit 1; }
     grep -q "$2" "$room/log" || { cat "$room/log" >&2; exit 1; }
 }
@@ -161,10 +166,14 @@ mv "$room/newer/lib/pkgconfig/aeadkit.pc" "$room/older/"
 (export AEADKIT_PREFIX="$room/newer" && in_crate other run)
 # The same after a build: a link that leads to another library now, and another folder that pkg-config finds.
 ln -s newer "$room/current"
-(export AEADKIT_PREFIX="$room/current" && in_crate other run)
+(export AEADKIT_PREFIX="$room/current" && in_crate other run && in_crate other run --release)
 ln -sfn newest "$room/current"
+# an older archive is taken in each profile after the step that README names
+grep -q '`touch` an older one' README.md
 touch "$room/newest/lib/libaeadkit.a"
-not_linked AEADKIT_PREFIX="$room/current" AEADKIT_3
+for profile in dev release; do
+    not_linked AEADKIT_PREFIX="$room/current" AEADKIT_3 --profile=$profile
+done
 sed -i "s|$prefix/share/aeadkit/rust|$room/aeadkit|" "$room/other/Cargo.toml"
 printf '#!/bin/sh\necho "$PKG_CONFIG_LIBDIR"\n' > "$room/pkg-config"
 chmod +x "$room/pkg-config"

@@ -25,12 +25,13 @@ static size_t all_of(FILE *file, uint8_t *to, size_t room) {
 }
 
 int main(int count, char **words) {
-    static uint8_t key[AEADKIT_KEY_MOST_BYTES], in[MOST], out[MOST + AEADKIT_WRAP_BYTES];
+    static uint8_t key[AEADKIT_KEY_MOST_BYTES], in[MOST + AEADKIT_WRAP_BYTES], out[MOST + AEADKIT_WRAP_BYTES];
     uint8_t why[33] = {0};
     uint32_t status;
     if (count != 3) stop("usage: wrap wrap|unwrap|wrap-padded|unwrap-padded KEYFILE < IN > OUT");
     const char *way = words[1];
-    size_t key_length = all_of(fopen(words[2], "rb"), key, sizeof key), length = all_of(stdin, in, MOST), out_length;
+    size_t room = way[0] == 'u' ? sizeof in : (size_t)MOST; /* what can be wrapped can be unwrapped */
+    size_t key_length = all_of(fopen(words[2], "rb"), key, sizeof key), length = all_of(stdin, in, room), out_length;
 
     if (!strcmp(way, "wrap")) {
         out_length = length + AEADKIT_WRAP_BYTES;

@@ -5,7 +5,8 @@
 //! `AEADKIT_3`. Without this crate's build a linker misses it too, except for a shared object, which it links nevertheless.
 //!
 //! Cargo runs this again if one of the variables is changed, or if the archive is newer than its last run. An archive that is
-//! older, as after a link was turned back to an earlier library, is taken after `cargo clean -p aeadkit`.
+//! older, as after a link was turned back to an earlier library, is taken after `touch` or `cargo clean`. With `-p aeadkit` that
+//! cleans one profile, and a build with `--release` would keep the earlier archive.
 
 use std::path::{Path, PathBuf};
 use std::process::Command;

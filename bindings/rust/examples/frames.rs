@@ -28,6 +28,8 @@ pub struct End {
 }
 
 impl End {
+    /// The first frame of a direction comes next. **The two directions of a stream need two numbers**, and one number has one
+    /// sender: two senders with one number would use each nonce twice, and their frames would open.
     pub fn new(key: &Key, direction: u32) -> End {
         End { key: key.clone(), direction, next: Some(0) }
     }
