@@ -254,6 +254,13 @@ const extra = (call) => {
         assert.throws(() => call(more), { name: "TypeError", message: /^an argument too many/ });
     }
 };
+// One argument further, a number or a string is refused: the bytes after the length would be sealed too, as in
+// update(buffer, 0, length), or the result would not have the encoding, as in update(piece, null, "hex").
+const further = (call) => {
+    for (const more of [[0, 20], [undefined, 20], ["buffer", 20], [null, "hex"], [undefined, "base64"], [0, ""]]) {
+        assert.throws(() => call(...more), { name: "TypeError", message: /^an argument too many/ });
+    }
+};
 for (const more of [undefined, null, 0, 1, 2n, true, {}, { aad: undefined }, new Map(), "buffer"]) {
     assert.deepEqual(kept.sealer(nonce, { aad }, more).update(first, more), body.slice(0, 20));
     assert.deepEqual(kept.open(nonce, sealed, { aad }, more), text);
@@ -265,27 +272,36 @@ extra((more) => keywrap.wrap(key, key, more));
 extra((more) => keywrap.unwrap(key, keywrap.wrap(key, key), more));
 extra((more) => keywrap.wrapPadded(key, nonce, more));
 extra((more) => keywrap.unwrapPadded(key, keywrap.wrapPadded(key, nonce), more));
+further((...more) => keywrap.wrap(key, key, ...more));
+further((...more) => keywrap.unwrap(key, keywrap.wrap(key, key), ...more));
+further((...more) => keywrap.wrapPadded(key, nonce, ...more));
+further((...more) => keywrap.unwrapPadded(key, keywrap.wrapPadded(key, nonce), ...more));
 extra((more) => sealing.update(first, more));
+further((...more) => sealing.update(first, ...more));
 const pieces = [first, rest].map(sealing.update, sealing);
 extra((more) => sealing.save(more));
 extra((more) => Sealer.resume(aead, suite, key, nonce, kept.sealer(nonce).save(), more));
 extra((more) => sealing.finish(more));
 assert.deepEqual(Buffer.concat([...pieces, sealing.finish()]), Buffer.from(sealed));
 extra((more) => opening.check(body, more));
+further((...more) => opening.check(body, ...more));
 await new Blob([body]).stream().pipeTo(new WritableStream({ write: opening.check.bind(opening) }));
 extra((more) => opening.beginSecond(more));
 opening.beginSecond();
 extra((more) => opening.update(body, more));
+further((...more) => opening.update(body, ...more));
 assert.deepEqual(opening.update(body), text);
 extra((more) => opening.save(more));
 extra((more) => Opener.resume(aead, suite, key, nonce, opening.save(), more));
 extra((more) => opening.finish(more));
 opening.finish();
 extra((more) => reading.absorb(first, more));
+further((...more) => reading.absorb(first, ...more));
 [first, rest].forEach(reading.absorb, reading);
 extra((more) => reading.beginSecond(more));
 const sivTag = reading.beginSecond();
 extra((more) => reading.update(first, more));
+further((...more) => reading.update(first, ...more));
 const sivPieces = [first, rest].map(reading.update, reading);
 extra((more) => reading.save(more));
 extra((more) => SivSealer.resume(aead, siv, key, nonce, new SivSealer(aead, siv, key, nonce).save(), more));
