@@ -128,7 +128,8 @@ function wantBytes(...arrays) {
 // Throws if a call is given associated data after its last argument, or what has a length, such as a last piece for `finish`: it
 // would be left out. Anything else is let through, since `map` gives the index of a piece to `update`, and a stream its controller
 // to `check`. So is "buffer", which a stream of Node gives as the encoding of a piece of bytes. `last` is the argument after that.
-// A number or a string there is the length of `update(buffer, 0, length)`, or the encoding of `update(piece, null, "hex")`.
+// A number or a string there is the length of `update(buffer, 0, length)`, or the encoding of `update(piece, null, "hex")`, and
+// a function is what a stream of Node waits for, which gives it to a method by itself.
 function wantNoMore(more, last) {
     const isSized = ArrayBuffer.isView(more) || ["length", "byteLength"].some((name) => more?.[name] !== undefined);
     if (isSized && more !== "buffer" || more?.aad !== undefined) {
@@ -136,6 +137,16 @@ function wantNoMore(more, last) {
     }
     if (["number", "string"].includes(typeof last)) {
         throw new TypeError("an argument too many: the call takes a whole array, such as a subarray, and no encoding");
+    }
+    if (typeof last === "function") {
+        throw new TypeError("an argument too many: the call does not call a function");
+    }
+}
+
+// Throws if a TransformStream gives its controller to a method by itself that returns bytes, such as the tag: it would drop them.
+function wantNoController(more) {
+    if (typeof more?.enqueue === "function") {
+        throw new TypeError("an argument too many: the call enqueues nothing in a stream");
     }
 }
 
@@ -539,6 +550,7 @@ export class Sealer {
     /** Returns the ciphertext of the next piece of the text, of any length. */
     update(piece, more, last) {
         wantNoMore(more, last);
+        wantNoController(more);
         [piece] = wantBytes(piece);
         return this.#struct.changed("aeadkit_sealer_update", piece);
     }
@@ -546,6 +558,7 @@ export class Sealer {
     /** Ends the sealing, and returns the tag of 16 bytes. */
     finish(more) {
         wantNoMore(more);
+        wantNoController(more);
         return this.#struct.made(TAG_BYTES, "aeadkit_sealer_finish");
     }
 
@@ -609,6 +622,7 @@ export class Opener {
     /** Returns the text of the next piece of the ciphertext in the second pass. */
     update(piece, more, last) {
         wantNoMore(more, last);
+        wantNoController(more);
         [piece] = wantBytes(piece);
         return this.#struct.changed("aeadkit_opener_update", piece);
     }
@@ -669,12 +683,14 @@ export class SivSealer {
     /** Ends the first reading and begins the second. Returns the tag of 16 bytes. */
     beginSecond(more) {
         wantNoMore(more);
+        wantNoController(more);
         return this.#struct.made(TAG_BYTES, "aeadkit_siv_begin_second");
     }
 
     /** Returns the ciphertext of the next piece of the text in the second reading. */
     update(piece, more, last) {
         wantNoMore(more, last);
+        wantNoController(more);
         [piece] = wantBytes(piece);
         return this.#struct.changed("aeadkit_siv_update", piece);
     }

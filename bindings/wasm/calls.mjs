@@ -2,6 +2,7 @@
 
 import assert from "node:assert";
 import { readFileSync } from "node:fs";
+import { Transform } from "node:stream";
 import { runInNewContext } from "node:vm";
 import { MessageChannel, receiveMessageOnPort } from "node:worker_threads";
 import * as aeadkit from "aeadkit/node";
@@ -255,9 +256,12 @@ const extra = (call) => {
     }
 };
 // One argument further, a number or a string is refused: the bytes after the length would be sealed too, as in
-// update(buffer, 0, length), or the result would not have the encoding, as in update(piece, null, "hex").
+// update(buffer, 0, length), or the result would not have the encoding, as in update(piece, null, "hex"). So is a function: a
+// stream of Node would wait for its call, and the program might end before with status 0.
 const further = (call) => {
-    for (const more of [[0, 20], [undefined, 20], ["buffer", 20], [null, "hex"], [undefined, "base64"], [0, ""]]) {
+    for (const more of [
+        [0, 20], [undefined, 20], ["buffer", 20], [null, "hex"], [undefined, "base64"], [0, ""], ["buffer", () => {}],
+    ]) {
         assert.throws(() => call(...more), { name: "TypeError", message: /^an argument too many/ });
     }
 };
@@ -286,6 +290,17 @@ assert.deepEqual(Buffer.concat([...pieces, sealing.finish()]), Buffer.from(seale
 extra((more) => opening.check(body, more));
 further((...more) => opening.check(body, ...more));
 await new Blob([body]).stream().pipeTo(new WritableStream({ write: opening.check.bind(opening) }));
+// A stream would drop what a method by itself returns, such as the tag. A method that returns nothing is let through.
+for (const transformer of [
+    { transform: (piece, controller) => controller.enqueue(piece), flush: sealing.finish.bind(sealing) },
+    { transform: sealing.update.bind(sealing) }, { transform: opening.update.bind(opening) },
+    { transform: reading.update.bind(reading) }, { flush: reading.beginSecond.bind(reading) },
+]) {
+    const stream = new Blob([first]).stream().pipeThrough(new TransformStream(transformer));
+    await assert.rejects(new Response(stream).arrayBuffer(), { name: "TypeError", message: /^an argument too many/ });
+}
+const transforming = new Transform({ transform: sealing.update.bind(sealing) });
+assert.throws(() => transforming.write(first), { name: "TypeError", message: /^an argument too many/ });
 extra((more) => opening.beginSecond(more));
 opening.beginSecond();
 extra((more) => opening.update(body, more));
@@ -294,7 +309,8 @@ assert.deepEqual(opening.update(body), text);
 extra((more) => opening.save(more));
 extra((more) => Opener.resume(aead, suite, key, nonce, opening.save(), more));
 extra((more) => opening.finish(more));
-opening.finish();
+await new Response(new Blob([body]).stream().pipeThrough(new TransformStream({ flush: opening.finish.bind(opening) }))).text();
+assert.throws(() => opening.finish(), aeadkit.NotBegun);
 extra((more) => reading.absorb(first, more));
 further((...more) => reading.absorb(first, ...more));
 [first, rest].forEach(reading.absorb, reading);
