@@ -65,7 +65,8 @@ export interface Options {
  * cannot compile them, as one without memories that have 64-bit addresses.
  *
  * A call that throws has changed none of its arguments. Each result is a new array, and only the calls named InPlace change an
- * argument.
+ * argument. A result is a Uint8Array and not a Buffer, so its `toString("hex")` gives decimal numbers with commas: write
+ * `Buffer.from(result).toString("hex")`.
  *
  * All bytes of a call have to fit in the memory of its module, for `seal` and `open` the text and the result. If they do not, the
  * call throws a `RangeError`, and a state in pieces goes on as it was. In Node 20 a memory ends at 4 GiB: `seal` takes texts of
@@ -74,8 +75,12 @@ export interface Options {
  *
  * Here and in the classes below, a call throws a `TypeError`, before the faults that it names, if an argument is not a Uint8Array
  * or an `Aead` where one is required, or if its options are not a plain object. So does each call that takes or returns bytes if
- * associated data or anything that has a length stands after its last argument, such as a last piece or an encoding for `finish`.
- * In version 2.0 the associated data stood before the text or the tag, as a Uint8Array: such a call throws a `TypeError`.
+ * associated data or anything that has a length stands after its last argument, such as a last piece or an encoding for `finish`. A
+ * call takes whole arrays: for a part of a buffer pass `buffer.subarray(0, length)`. `update(buffer, 0, length)` throws a
+ * `TypeError`, but a single number after a piece does not, since `map` gives an index there. A stream drops what a call returns:
+ * write `flush: (controller) => controller.enqueue(sealer.finish())`, since `flush: sealer.finish.bind(sealer)` throws a `TypeError`.
+ * `resume` throws a `TypeError` on a subclass, since its result would be an object of the class itself. In version 2.0 the
+ * associated data stood before the text or the tag, as a Uint8Array: such a call throws a `TypeError`.
  *
  * The time of a call may depend on secrets: AES, and the hashes of AES-GCM and AES-GCM-SIV, look up tables by secret bytes. A call
  * leaves zeros where its arguments and results stood in the module's memory, but not on the module's stack. The arrays that you
@@ -106,6 +111,8 @@ export class Aead {
 
     /**
      * Seals a text where it stands: `text` becomes its ciphertext. Returns the tag of 16 bytes, without which it cannot be opened.
+     * For a part of an array pass a `subarray`. A `slice` of a Uint8Array is a copy, as is `Buffer.from` of one: the copy would be
+     * sealed, and the array would still hold the text.
      *
      * Never use a nonce twice under one key. If two texts are sealed with one nonce and key, ChaCha20-Poly1305 and AES-GCM give
      * away the XOR of the two texts, and enough to forge messages; AES-GCM-SIV gives away only whether the texts and the
@@ -180,6 +187,8 @@ export class Key {
 
     /**
      * Seals a text where it stands: `text` becomes its ciphertext. Returns the tag of 16 bytes, without which it cannot be opened.
+     * For a part of an array pass a `subarray`. A `slice` of a Uint8Array is a copy, as is `Buffer.from` of one: the copy would be
+     * sealed, and the array would still hold the text.
      *
      * Never use a nonce twice under one key. If two texts are sealed with one nonce and key, ChaCha20-Poly1305 and AES-GCM give
      * away the XOR of the two texts, and enough to forge messages; AES-GCM-SIV gives away only whether the texts and the

@@ -127,11 +127,26 @@ function wantBytes(...arrays) {
 
 // Throws if a call is given associated data after its last argument, or what has a length, such as a last piece for `finish`: it
 // would be left out. Anything else is let through, since `map` gives the index of a piece to `update`, and a stream its controller
-// to `check`. So is "buffer", which a stream of Node gives as the encoding of a piece of bytes.
-function wantNoMore(more) {
+// to `check`. So is "buffer", which a stream of Node gives as the encoding of a piece of bytes. `last` is the argument after that.
+// A number or a string there is the length of `update(buffer, 0, length)`, or the encoding of `update(piece, null, "hex")`, and
+// a function is what a stream of Node waits for, which gives it to a method by itself.
+function wantNoMore(more, last) {
     const isSized = ArrayBuffer.isView(more) || ["length", "byteLength"].some((name) => more?.[name] !== undefined);
     if (isSized && more !== "buffer" || more?.aad !== undefined) {
         throw new TypeError("an argument too many: the call takes no more bytes, and no associated data");
+    }
+    if (["number", "string"].includes(typeof last)) {
+        throw new TypeError("an argument too many: the call takes a whole array, such as a subarray, and no encoding");
+    }
+    if (typeof last === "function") {
+        throw new TypeError("an argument too many: the call does not call a function");
+    }
+}
+
+// Throws if a TransformStream gives its controller to a method by itself that returns bytes, such as the tag: it would drop them.
+function wantNoController(more) {
+    if (typeof more?.enqueue === "function") {
+        throw new TypeError("an argument too many: the call enqueues nothing in a stream");
     }
 }
 
@@ -312,6 +327,14 @@ let moduleOf;
 // The lengths of saved states in bytes.
 const SAVED_SEALER_BYTES = 96;
 const SAVED_PASSES_BYTES = 144;
+
+// Throws if `resume` is called on a subclass: what it returns would not have the subclass's own calls, such as an `update` that
+// writes what it returns.
+function wantItself(receiver, Class) {
+    if (receiver?.prototype instanceof Class) {
+        throw new TypeError("resume returns no object of a subclass: call it on Sealer, Opener or SivSealer");
+    }
+}
 
 // Returns the struct of a kind that was saved as these bytes. The first 8 are a mark, which names the kind, the pass, the version
 // of the layout and, in its lowest byte, the suite.
@@ -525,8 +548,9 @@ export class Sealer {
     }
 
     /** Returns the ciphertext of the next piece of the text, of any length. */
-    update(piece, more) {
-        wantNoMore(more);
+    update(piece, more, last) {
+        wantNoMore(more, last);
+        wantNoController(more);
         [piece] = wantBytes(piece);
         return this.#struct.changed("aeadkit_sealer_update", piece);
     }
@@ -534,6 +558,7 @@ export class Sealer {
     /** Ends the sealing, and returns the tag of 16 bytes. */
     finish(more) {
         wantNoMore(more);
+        wantNoController(more);
         return this.#struct.made(TAG_BYTES, "aeadkit_sealer_finish");
     }
 
@@ -549,6 +574,7 @@ export class Sealer {
     /** Goes on with the sealing that `save` ended. Never resume one saved state twice. */
     static resume(aead, suite, key, nonce, saved, more) {
         wantNoMore(more);
+        wantItself(this, Sealer);
         return new Sealer(resumed(aead, "sealer", SAVED_SEALER_BYTES, suite, key, nonce, saved));
     }
 
@@ -581,8 +607,8 @@ export class Opener {
     }
 
     /** Takes the next piece of the ciphertext in the first pass. */
-    check(piece, more) {
-        wantNoMore(more);
+    check(piece, more, last) {
+        wantNoMore(more, last);
         [piece] = wantBytes(piece);
         this.#struct.call("aeadkit_opener_check", piece);
     }
@@ -594,8 +620,9 @@ export class Opener {
     }
 
     /** Returns the text of the next piece of the ciphertext in the second pass. */
-    update(piece, more) {
-        wantNoMore(more);
+    update(piece, more, last) {
+        wantNoMore(more, last);
+        wantNoController(more);
         [piece] = wantBytes(piece);
         return this.#struct.changed("aeadkit_opener_update", piece);
     }
@@ -615,6 +642,7 @@ export class Opener {
     /** Goes on with the opening that `save` saved, in the pass that it was in. */
     static resume(aead, suite, key, nonce, saved, more) {
         wantNoMore(more);
+        wantItself(this, Opener);
         return new Opener(resumed(aead, "opener", SAVED_PASSES_BYTES, suite, key, nonce, saved));
     }
 
@@ -646,8 +674,8 @@ export class SivSealer {
     }
 
     /** Takes the next piece of the text in the first reading. */
-    absorb(piece, more) {
-        wantNoMore(more);
+    absorb(piece, more, last) {
+        wantNoMore(more, last);
         [piece] = wantBytes(piece);
         this.#struct.call("aeadkit_siv_absorb", piece);
     }
@@ -655,12 +683,14 @@ export class SivSealer {
     /** Ends the first reading and begins the second. Returns the tag of 16 bytes. */
     beginSecond(more) {
         wantNoMore(more);
+        wantNoController(more);
         return this.#struct.made(TAG_BYTES, "aeadkit_siv_begin_second");
     }
 
     /** Returns the ciphertext of the next piece of the text in the second reading. */
-    update(piece, more) {
-        wantNoMore(more);
+    update(piece, more, last) {
+        wantNoMore(more, last);
+        wantNoController(more);
         [piece] = wantBytes(piece);
         return this.#struct.changed("aeadkit_siv_update", piece);
     }
@@ -683,6 +713,7 @@ export class SivSealer {
     /** Goes on with the sealing that `save` ended. Never resume one saved state twice. */
     static resume(aead, suite, key, nonce, saved, more) {
         wantNoMore(more);
+        wantItself(this, SivSealer);
         return new SivSealer(resumed(aead, "siv", SAVED_PASSES_BYTES, suite, key, nonce, saved));
     }
 
@@ -701,29 +732,29 @@ export class KeyWrap {
     }
 
     /** Returns the wrapping of a text, which is 8 bytes longer. */
-    wrap(key, text, more) {
-        wantNoMore(more);
+    wrap(key, text, more, last) {
+        wantNoMore(more, last);
         [key, text] = wantBytes(key, text);
         return this.#module.made(text.length + WRAP_BYTES, "aeadkit_wrap", key, text);
     }
 
     /** Returns the text of what `wrap` made. */
-    unwrap(key, wrapped, more) {
-        wantNoMore(more);
+    unwrap(key, wrapped, more, last) {
+        wantNoMore(more, last);
         [key, wrapped] = wantBytes(key, wrapped);
         return this.#module.made(Math.max(0, wrapped.length - WRAP_BYTES), "aeadkit_unwrap", key, wrapped);
     }
 
     /** Returns the wrapping with padding of a text of 1 to 2^32 - 1 bytes. */
-    wrapPadded(key, text, more) {
-        wantNoMore(more);
+    wrapPadded(key, text, more, last) {
+        wantNoMore(more, last);
         [key, text] = wantBytes(key, text);
         return this.#module.made(aligned(text.length) + WRAP_BYTES, "aeadkit_wrap_padded", key, text);
     }
 
     /** Returns the text of what `wrapPadded` made. */
-    unwrapPadded(key, wrapped, more) {
-        wantNoMore(more);
+    unwrapPadded(key, wrapped, more, last) {
+        wantNoMore(more, last);
         [key, wrapped] = wantBytes(key, wrapped);
         const text = new Uint8Array(Math.max(0, wrapped.length - WRAP_BYTES));
         const length = new Uint8Array(8);

@@ -2,6 +2,7 @@
 
 import assert from "node:assert";
 import { readFileSync } from "node:fs";
+import { Transform } from "node:stream";
 import { runInNewContext } from "node:vm";
 import { MessageChannel, receiveMessageOnPort } from "node:worker_threads";
 import * as aeadkit from "aeadkit/node";
@@ -254,6 +255,16 @@ const extra = (call) => {
         assert.throws(() => call(more), { name: "TypeError", message: /^an argument too many/ });
     }
 };
+// One argument further, a number or a string is refused: the bytes after the length would be sealed too, as in
+// update(buffer, 0, length), or the result would not have the encoding, as in update(piece, null, "hex"). So is a function: a
+// stream of Node would wait for its call, and the program might end before with status 0.
+const further = (call) => {
+    for (const more of [
+        [0, 20], [undefined, 20], ["buffer", 20], [null, "hex"], [undefined, "base64"], [0, ""], ["buffer", () => {}],
+    ]) {
+        assert.throws(() => call(...more), { name: "TypeError", message: /^an argument too many/ });
+    }
+};
 for (const more of [undefined, null, 0, 1, 2n, true, {}, { aad: undefined }, new Map(), "buffer"]) {
     assert.deepEqual(kept.sealer(nonce, { aad }, more).update(first, more), body.slice(0, 20));
     assert.deepEqual(kept.open(nonce, sealed, { aad }, more), text);
@@ -265,27 +276,49 @@ extra((more) => keywrap.wrap(key, key, more));
 extra((more) => keywrap.unwrap(key, keywrap.wrap(key, key), more));
 extra((more) => keywrap.wrapPadded(key, nonce, more));
 extra((more) => keywrap.unwrapPadded(key, keywrap.wrapPadded(key, nonce), more));
+further((...more) => keywrap.wrap(key, key, ...more));
+further((...more) => keywrap.unwrap(key, keywrap.wrap(key, key), ...more));
+further((...more) => keywrap.wrapPadded(key, nonce, ...more));
+further((...more) => keywrap.unwrapPadded(key, keywrap.wrapPadded(key, nonce), ...more));
 extra((more) => sealing.update(first, more));
+further((...more) => sealing.update(first, ...more));
 const pieces = [first, rest].map(sealing.update, sealing);
 extra((more) => sealing.save(more));
 extra((more) => Sealer.resume(aead, suite, key, nonce, kept.sealer(nonce).save(), more));
 extra((more) => sealing.finish(more));
 assert.deepEqual(Buffer.concat([...pieces, sealing.finish()]), Buffer.from(sealed));
 extra((more) => opening.check(body, more));
+further((...more) => opening.check(body, ...more));
 await new Blob([body]).stream().pipeTo(new WritableStream({ write: opening.check.bind(opening) }));
+// A stream would drop what a method by itself returns, such as the tag. A method that returns nothing is let through.
+for (const transformer of [
+    { transform: (piece, controller) => controller.enqueue(piece), flush: sealing.finish.bind(sealing) },
+    { transform: sealing.update.bind(sealing) }, { transform: opening.update.bind(opening) },
+    { transform: reading.update.bind(reading) }, { flush: reading.beginSecond.bind(reading) },
+]) {
+    const stream = new Blob([first]).stream().pipeThrough(new TransformStream(transformer));
+    await assert.rejects(stream.pipeTo(new WritableStream()), { name: "TypeError", message: /^an argument too many/ });
+}
+const transforming = new Transform({ transform: sealing.update.bind(sealing) });
+assert.throws(() => transforming.write(first), { name: "TypeError", message: /^an argument too many/ });
 extra((more) => opening.beginSecond(more));
 opening.beginSecond();
 extra((more) => opening.update(body, more));
+further((...more) => opening.update(body, ...more));
 assert.deepEqual(opening.update(body), text);
 extra((more) => opening.save(more));
 extra((more) => Opener.resume(aead, suite, key, nonce, opening.save(), more));
 extra((more) => opening.finish(more));
-opening.finish();
+await new Blob([body]).stream().pipeThrough(new TransformStream({ flush: opening.finish.bind(opening) }))
+    .pipeTo(new WritableStream());
+assert.throws(() => opening.finish(), aeadkit.NotBegun);
 extra((more) => reading.absorb(first, more));
+further((...more) => reading.absorb(first, ...more));
 [first, rest].forEach(reading.absorb, reading);
 extra((more) => reading.beginSecond(more));
 const sivTag = reading.beginSecond();
 extra((more) => reading.update(first, more));
+further((...more) => reading.update(first, ...more));
 const sivPieces = [first, rest].map(reading.update, reading);
 extra((more) => reading.save(more));
 extra((more) => SivSealer.resume(aead, siv, key, nonce, new SivSealer(aead, siv, key, nonce).save(), more));

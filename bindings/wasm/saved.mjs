@@ -116,4 +116,14 @@ for (const [Class, suite] of [[Sealer, Suite.AES_256_GCM], [SivSealer, Suite.AES
         assert.throws(() => sealing.finish(), NotBegun);
     }
 }
+// `resume` is refused on a subclass, whose own calls the resumed state would lack, such as an `update` that writes.
+for (const [Class, suite, ...tag] of [
+    [Sealer, Suite.AES_256_GCM], [SivSealer, Suite.AES_256_GCM_SIV], [Opener, Suite.AES_256_GCM, text.slice(0, 16)],
+]) {
+    const saved = new (class extends Class {})(aead, suite, keyOf(suite), nonce, ...tag).save();
+    assert.throws(() => (class extends Class {}).resume(aead, suite, keyOf(suite), nonce, saved),
+        { name: "TypeError", message: /^resume returns no object of a subclass/ });
+    const { resume } = Class;
+    assert.deepEqual(resume(aead, suite, keyOf(suite), nonce, saved).save(), saved);
+}
 assert.equal(String(new NotSaved()), "NotSaved: not a saved state of this class, suite, key and nonce");
