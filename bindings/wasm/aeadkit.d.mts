@@ -74,13 +74,11 @@ export interface Options {
  * as much as that needed.
  *
  * Here and in the classes below, a call throws a `TypeError`, before the faults that it names, if an argument is not a Uint8Array
- * or an `Aead` where one is required, or if its options are not a plain object. So does each call that takes or returns bytes if
- * associated data or anything that has a length stands after its last argument, such as a last piece or an encoding for `finish`. A
- * call takes whole arrays: for a part of a buffer pass `buffer.subarray(0, length)`. `update(buffer, 0, length)` throws a
- * `TypeError`, but a single number after a piece does not, since `map` gives an index there. A stream drops what a call returns:
- * write `flush: (controller) => controller.enqueue(sealer.finish())`, since `flush: sealer.finish.bind(sealer)` throws a `TypeError`.
- * `resume` throws a `TypeError` on a subclass, since its result would be an object of the class itself. In version 2.0 the
- * associated data stood before the text or the tag, as a Uint8Array: such a call throws a `TypeError`.
+ * or an `Aead` where one is required, or if its options are not a plain object. A call takes whole arrays: for a part of a buffer
+ * pass `buffer.subarray(0, length)`. A TransformStream drops what a method by itself returns, such as the tag: write
+ * `flush: (controller) => controller.enqueue(sealer.finish())`. `resume` throws a `TypeError` on a subclass, since its result
+ * would be an object of the class itself. In version 2.0 the associated data stood before the text or the tag, as a Uint8Array:
+ * such a call throws a `TypeError`.
  *
  * The time of a call may depend on secrets: AES, and the hashes of AES-GCM and AES-GCM-SIV, look up tables by secret bytes. A call
  * leaves zeros where its arguments and results stood in the module's memory, but not on the module's stack. The arrays that you

@@ -125,31 +125,6 @@ function wantBytes(...arrays) {
     });
 }
 
-// Throws if a call is given associated data after its last argument, or what has a length, such as a last piece for `finish`: it
-// would be left out. Anything else is let through, since `map` gives the index of a piece to `update`, and a stream its controller
-// to `check`. So is "buffer", which a stream of Node gives as the encoding of a piece of bytes. `last` is the argument after that.
-// A number or a string there is the length of `update(buffer, 0, length)`, or the encoding of `update(piece, null, "hex")`, and
-// a function is what a stream of Node waits for, which gives it to a method by itself.
-function wantNoMore(more, last) {
-    const isSized = ArrayBuffer.isView(more) || ["length", "byteLength"].some((name) => more?.[name] !== undefined);
-    if (isSized && more !== "buffer" || more?.aad !== undefined) {
-        throw new TypeError("an argument too many: the call takes no more bytes, and no associated data");
-    }
-    if (["number", "string"].includes(typeof last)) {
-        throw new TypeError("an argument too many: the call takes a whole array, such as a subarray, and no encoding");
-    }
-    if (typeof last === "function") {
-        throw new TypeError("an argument too many: the call does not call a function");
-    }
-}
-
-// Throws if a TransformStream gives its controller to a method by itself that returns bytes, such as the tag: it would drop them.
-function wantNoController(more) {
-    if (typeof more?.enqueue === "function") {
-        throw new TypeError("an argument too many: the call enqueues nothing in a stream");
-    }
-}
-
 // Whether an object has no prototype, or the Object.prototype of a realm: this one, or one of a frame or of node:vm.
 function isPlain(object) {
     const prototype = Object.getPrototypeOf(object);
@@ -159,10 +134,8 @@ function isPlain(object) {
 
 // Returns the associated data that options name, which is empty if they name none. Throws if they are not a plain object, as in
 // a call of version 2.0, whose last argument was a Uint8Array, or if they have a key of another name, or if it is not a
-// Uint8Array. Throws too if they have associated data that is not their own, as a Proxy may: it would be left out. `more` is what
-// the call was given after them.
-function aadOf(options, more) {
-    wantNoMore(more);
+// Uint8Array. Throws too if they have associated data that is not their own, as a Proxy may: it would be left out.
+function aadOf(options) {
     if (options === null || !isPlain(options) || Reflect.ownKeys(options).some((name) => name !== "aad")) {
         throw new TypeError("associated data is given by name: { aad }");
     }
@@ -370,24 +343,24 @@ export class Aead {
     }
 
     /** Returns the ciphertext and then the tag of 16 bytes. Never use a nonce twice under one key. */
-    seal(suite, key, nonce, text, options = {}, more) {
-        const aad = aadOf(options, more);
+    seal(suite, key, nonce, text, options = {}) {
+        const aad = aadOf(options);
         [key, nonce, text] = wantBytes(key, nonce, text);
         wantNumber(suite);
         return this.#module.made(text.length + TAG_BYTES, "aeadkit_seal", suite, key, nonce, aad, text);
     }
 
     /** Returns the text of what `seal` made. */
-    open(suite, key, nonce, sealed, options = {}, more) {
-        const aad = aadOf(options, more);
+    open(suite, key, nonce, sealed, options = {}) {
+        const aad = aadOf(options);
         [key, nonce, sealed] = wantBytes(key, nonce, sealed);
         wantNumber(suite);
         return this.#module.made(Math.max(0, sealed.length - TAG_BYTES), "aeadkit_open", suite, key, nonce, aad, sealed);
     }
 
     /** Seals a text where it stands, and returns the tag of 16 bytes. Never use a nonce twice under one key. */
-    sealInPlace(suite, key, nonce, text, options = {}, more) {
-        const aad = aadOf(options, more);
+    sealInPlace(suite, key, nonce, text, options = {}) {
+        const aad = aadOf(options);
         [key, nonce, text] = wantBytes(key, nonce, text);
         wantNumber(suite);
         const tag = new Uint8Array(TAG_BYTES);
@@ -396,8 +369,8 @@ export class Aead {
     }
 
     /** Opens a ciphertext where it stands, with its tag of 16 bytes. */
-    openInPlace(suite, key, nonce, ciphertext, tag, options = {}, more) {
-        const aad = aadOf(options, more);
+    openInPlace(suite, key, nonce, ciphertext, tag, options = {}) {
+        const aad = aadOf(options);
         [key, nonce, ciphertext] = wantBytes(key, nonce, ciphertext);
         tag = wantTag(tag);
         wantNumber(suite);
@@ -454,9 +427,8 @@ export class Key {
     #struct;
     #suite;
 
-    constructor(aead, suite, key, more) {
+    constructor(aead, suite, key) {
         this.#module = moduleOf(aead);
-        wantNoMore(more);
         [key] = wantBytes(key);
         wantNumber(suite);
         this.#suite = suite;
@@ -469,23 +441,23 @@ export class Key {
     }
 
     /** Returns the ciphertext and then the tag of 16 bytes. Never use a nonce twice under one key. */
-    seal(nonce, text, options = {}, more) {
-        const aad = aadOf(options, more);
+    seal(nonce, text, options = {}) {
+        const aad = aadOf(options);
         [nonce, text] = wantBytes(nonce, text);
         return this.#module.made(text.length + TAG_BYTES, "aeadkit_seal_with", this.#struct.constant, nonce, aad, text);
     }
 
     /** Returns the text of what `seal` made. */
-    open(nonce, sealed, options = {}, more) {
-        const aad = aadOf(options, more);
+    open(nonce, sealed, options = {}) {
+        const aad = aadOf(options);
         [nonce, sealed] = wantBytes(nonce, sealed);
         const length = Math.max(0, sealed.length - TAG_BYTES);
         return this.#module.made(length, "aeadkit_open_with", this.#struct.constant, nonce, aad, sealed);
     }
 
     /** Seals a text where it stands, and returns the tag of 16 bytes. Never use a nonce twice under one key. */
-    sealInPlace(nonce, text, options = {}, more) {
-        const aad = aadOf(options, more);
+    sealInPlace(nonce, text, options = {}) {
+        const aad = aadOf(options);
         [nonce, text] = wantBytes(nonce, text);
         const tag = new Uint8Array(TAG_BYTES);
         this.#module.call("aeadkit_seal_in_place_with", this.#struct.constant, nonce, aad, inPlace(text), result(tag));
@@ -493,23 +465,23 @@ export class Key {
     }
 
     /** Opens a ciphertext where it stands, with its tag of 16 bytes. */
-    openInPlace(nonce, ciphertext, tag, options = {}, more) {
-        const aad = aadOf(options, more);
+    openInPlace(nonce, ciphertext, tag, options = {}) {
+        const aad = aadOf(options);
         [nonce, ciphertext] = wantBytes(nonce, ciphertext);
         tag = wantTag(tag);
         this.#module.call("aeadkit_open_in_place_with", this.#struct.constant, nonce, aad, inPlace(ciphertext), constant(tag));
     }
 
     /** Begins a sealing in pieces, of an empty text so far. Never use a nonce twice under one key. */
-    sealer(nonce, options = {}, more) {
-        const aad = aadOf(options, more);
+    sealer(nonce, options = {}) {
+        const aad = aadOf(options);
         [nonce] = wantBytes(nonce);
         return new Sealer(new Struct(this.#module, "sealer", "aeadkit_sealer_init_with", this.#struct.constant, nonce, aad));
     }
 
     /** Begins an opening in pieces of a ciphertext with a tag of 16 bytes. */
-    opener(nonce, tag, options = {}, more) {
-        const aad = aadOf(options, more);
+    opener(nonce, tag, options = {}) {
+        const aad = aadOf(options);
         [nonce] = wantBytes(nonce);
         tag = wantTag(tag);
         const words = [this.#struct.constant, nonce, aad, constant(tag)];
@@ -517,8 +489,8 @@ export class Key {
     }
 
     /** Begins a sealing in pieces under AES-GCM-SIV, of an empty text so far. Never use a nonce twice under one key. */
-    sivSealer(nonce, options = {}, more) {
-        const aad = aadOf(options, more);
+    sivSealer(nonce, options = {}) {
+        const aad = aadOf(options);
         [nonce] = wantBytes(nonce);
         return new SivSealer(new Struct(this.#module, "siv", "aeadkit_siv_init_with", this.#struct.constant, nonce, aad));
     }
@@ -534,37 +506,32 @@ export class Sealer {
     #struct;
 
     /** Begins a sealing with the calls of an Aead, of an empty text so far. Never use a nonce twice under one key. */
-    constructor(aead, suite, key, nonce, options = {}, more) {
+    constructor(aead, suite, key, nonce, options = {}) {
         // what a Key began, or what was resumed
         if (aead instanceof Struct) {
             this.#struct = aead;
             return;
         }
         const module = moduleOf(aead);
-        const aad = aadOf(options, more);
+        const aad = aadOf(options);
         [key, nonce] = wantBytes(key, nonce);
         wantNumber(suite);
         this.#struct = new Struct(module, "sealer", "aeadkit_sealer_init", suite, key, nonce, aad);
     }
 
     /** Returns the ciphertext of the next piece of the text, of any length. */
-    update(piece, more, last) {
-        wantNoMore(more, last);
-        wantNoController(more);
+    update(piece) {
         [piece] = wantBytes(piece);
         return this.#struct.changed("aeadkit_sealer_update", piece);
     }
 
     /** Ends the sealing, and returns the tag of 16 bytes. */
-    finish(more) {
-        wantNoMore(more);
-        wantNoController(more);
+    finish() {
         return this.#struct.made(TAG_BYTES, "aeadkit_sealer_finish");
     }
 
     /** Ends the sealing here, and returns the bytes that `resume` takes. Never resume from them twice. */
-    save(more) {
-        wantNoMore(more);
+    save() {
         const saved = this.#struct.made(SAVED_SEALER_BYTES, "aeadkit_sealer_save");
         // not `this.wipe()`, which a subclass may replace
         this.#struct.call("aeadkit_sealer_wipe");
@@ -572,8 +539,7 @@ export class Sealer {
     }
 
     /** Goes on with the sealing that `save` ended. Never resume one saved state twice. */
-    static resume(aead, suite, key, nonce, saved, more) {
-        wantNoMore(more);
+    static resume(aead, suite, key, nonce, saved) {
         wantItself(this, Sealer);
         return new Sealer(resumed(aead, "sealer", SAVED_SEALER_BYTES, suite, key, nonce, saved));
     }
@@ -592,14 +558,14 @@ export class Opener {
     #struct;
 
     /** Begins an opening of a ciphertext with a tag of 16 bytes, with the calls of an Aead. */
-    constructor(aead, suite, key, nonce, tag, options = {}, more) {
+    constructor(aead, suite, key, nonce, tag, options = {}) {
         // what a Key began, or what was resumed
         if (aead instanceof Struct) {
             this.#struct = aead;
             return;
         }
         const module = moduleOf(aead);
-        const aad = aadOf(options, more);
+        const aad = aadOf(options);
         [key, nonce] = wantBytes(key, nonce);
         tag = wantTag(tag);
         wantNumber(suite);
@@ -607,41 +573,34 @@ export class Opener {
     }
 
     /** Takes the next piece of the ciphertext in the first pass. */
-    check(piece, more, last) {
-        wantNoMore(more, last);
+    check(piece) {
         [piece] = wantBytes(piece);
         this.#struct.call("aeadkit_opener_check", piece);
     }
 
     /** Ends the first pass and begins the second. Throws `TagMismatch` if authentication failed, which ends the opening. */
-    beginSecond(more) {
-        wantNoMore(more);
+    beginSecond() {
         this.#struct.call("aeadkit_opener_begin_second");
     }
 
     /** Returns the text of the next piece of the ciphertext in the second pass. */
-    update(piece, more, last) {
-        wantNoMore(more, last);
-        wantNoController(more);
+    update(piece) {
         [piece] = wantBytes(piece);
         return this.#struct.changed("aeadkit_opener_update", piece);
     }
 
     /** Ends the second pass. After `SourceChanged`, if its authentication failed, throw away what `update` returned. */
-    finish(more) {
-        wantNoMore(more);
+    finish() {
         this.#struct.call("aeadkit_opener_finish");
     }
 
     /** Returns the bytes that `resume` takes to go on from here. */
-    save(more) {
-        wantNoMore(more);
+    save() {
         return this.#struct.made(SAVED_PASSES_BYTES, "aeadkit_opener_save");
     }
 
     /** Goes on with the opening that `save` saved, in the pass that it was in. */
-    static resume(aead, suite, key, nonce, saved, more) {
-        wantNoMore(more);
+    static resume(aead, suite, key, nonce, saved) {
         wantItself(this, Opener);
         return new Opener(resumed(aead, "opener", SAVED_PASSES_BYTES, suite, key, nonce, saved));
     }
@@ -660,50 +619,43 @@ export class SivSealer {
     #struct;
 
     /** Begins a sealing with the calls of an Aead, of an empty text so far. Never use a nonce twice under one key. */
-    constructor(aead, suite, key, nonce, options = {}, more) {
+    constructor(aead, suite, key, nonce, options = {}) {
         // what a Key began, or what was resumed
         if (aead instanceof Struct) {
             this.#struct = aead;
             return;
         }
         const module = moduleOf(aead);
-        const aad = aadOf(options, more);
+        const aad = aadOf(options);
         [key, nonce] = wantBytes(key, nonce);
         wantNumber(suite);
         this.#struct = new Struct(module, "siv", "aeadkit_siv_init", suite, key, nonce, aad);
     }
 
     /** Takes the next piece of the text in the first reading. */
-    absorb(piece, more, last) {
-        wantNoMore(more, last);
+    absorb(piece) {
         [piece] = wantBytes(piece);
         this.#struct.call("aeadkit_siv_absorb", piece);
     }
 
     /** Ends the first reading and begins the second. Returns the tag of 16 bytes. */
-    beginSecond(more) {
-        wantNoMore(more);
-        wantNoController(more);
+    beginSecond() {
         return this.#struct.made(TAG_BYTES, "aeadkit_siv_begin_second");
     }
 
     /** Returns the ciphertext of the next piece of the text in the second reading. */
-    update(piece, more, last) {
-        wantNoMore(more, last);
-        wantNoController(more);
+    update(piece) {
         [piece] = wantBytes(piece);
         return this.#struct.changed("aeadkit_siv_update", piece);
     }
 
     /** Ends the second reading. After `SourceChanged`, if it read another text, throw away what `update` returned. */
-    finish(more) {
-        wantNoMore(more);
+    finish() {
         this.#struct.call("aeadkit_siv_finish");
     }
 
     /** Ends the sealing here, and returns the bytes that `resume` takes. Never resume from them twice. */
-    save(more) {
-        wantNoMore(more);
+    save() {
         const saved = this.#struct.made(SAVED_PASSES_BYTES, "aeadkit_siv_save");
         // not `this.wipe()`, which a subclass may replace
         this.#struct.call("aeadkit_siv_wipe");
@@ -711,8 +663,7 @@ export class SivSealer {
     }
 
     /** Goes on with the sealing that `save` ended. Never resume one saved state twice. */
-    static resume(aead, suite, key, nonce, saved, more) {
-        wantNoMore(more);
+    static resume(aead, suite, key, nonce, saved) {
         wantItself(this, SivSealer);
         return new SivSealer(resumed(aead, "siv", SAVED_PASSES_BYTES, suite, key, nonce, saved));
     }
@@ -732,29 +683,25 @@ export class KeyWrap {
     }
 
     /** Returns the wrapping of a text, which is 8 bytes longer. */
-    wrap(key, text, more, last) {
-        wantNoMore(more, last);
+    wrap(key, text) {
         [key, text] = wantBytes(key, text);
         return this.#module.made(text.length + WRAP_BYTES, "aeadkit_wrap", key, text);
     }
 
     /** Returns the text of what `wrap` made. */
-    unwrap(key, wrapped, more, last) {
-        wantNoMore(more, last);
+    unwrap(key, wrapped) {
         [key, wrapped] = wantBytes(key, wrapped);
         return this.#module.made(Math.max(0, wrapped.length - WRAP_BYTES), "aeadkit_unwrap", key, wrapped);
     }
 
     /** Returns the wrapping with padding of a text of 1 to 2^32 - 1 bytes. */
-    wrapPadded(key, text, more, last) {
-        wantNoMore(more, last);
+    wrapPadded(key, text) {
         [key, text] = wantBytes(key, text);
         return this.#module.made(aligned(text.length) + WRAP_BYTES, "aeadkit_wrap_padded", key, text);
     }
 
     /** Returns the text of what `wrapPadded` made. */
-    unwrapPadded(key, wrapped, more, last) {
-        wantNoMore(more, last);
+    unwrapPadded(key, wrapped) {
         [key, wrapped] = wantBytes(key, wrapped);
         const text = new Uint8Array(Math.max(0, wrapped.length - WRAP_BYTES));
         const length = new Uint8Array(8);

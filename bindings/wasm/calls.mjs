@@ -2,7 +2,6 @@
 
 import assert from "node:assert";
 import { readFileSync } from "node:fs";
-import { Transform } from "node:stream";
 import { runInNewContext } from "node:vm";
 import { MessageChannel, receiveMessageOnPort } from "node:worker_threads";
 import * as aeadkit from "aeadkit/node";
@@ -238,93 +237,10 @@ assert.throws(() => aead.seal(suite, key, nonce), TypeError);
 assert.throws(() => new Opener(aead, suite, key, nonce, none), aeadkit.TagLength);
 assert.deepEqual(kept.seal(Buffer.from(nonce), Buffer.from(text), { aad: Buffer.from(aad) }), sealed);
 
-// Associated data after the last argument, or what has a length, is refused, and a state goes on: it would be missing in the
-// sealing, as a last piece, or stay as it was, as the output of a caller from C, or be an encoding that no result has. The index
-// that `map` gives, the controller of a stream, and the encoding of bytes that a stream of Node gives, are let through.
-const [first, rest] = [text.subarray(0, 20), text.subarray(20)];
-const [body, itsTag] = [sealed.subarray(0, -16), sealed.subarray(-16)];
+// A method of a state takes each piece of a list, as `map` gives it.
 const sealing = kept.sealer(nonce, { aad });
-const opening = kept.opener(nonce, itsTag, { aad });
-const reading = new SivSealer(aead, siv, key, nonce, { aad });
-const extra = (call) => {
-    for (const more of [
-        rest, none, Buffer.from(rest), { aad }, new Uint16Array(3), new DataView(rest.buffer), rest.buffer, new SharedArrayBuffer(3),
-        "", "hex", "a last piece", [...rest], [], { length: 1, 0: 7 }, { byteLength: 1 }, () => rest,
-        ...runInNewContext("[aad, { aad }, [7], new Uint8Array(3), new ArrayBuffer(3), new DataView(new ArrayBuffer(3))]", { aad }),
-    ]) {
-        assert.throws(() => call(more), { name: "TypeError", message: /^an argument too many/ });
-    }
-};
-// One argument further, a number or a string is refused: the bytes after the length would be sealed too, as in
-// update(buffer, 0, length), or the result would not have the encoding, as in update(piece, null, "hex"). So is a function: a
-// stream of Node would wait for its call, and the program might end before with status 0.
-const further = (call) => {
-    for (const more of [
-        [0, 20], [undefined, 20], ["buffer", 20], [null, "hex"], [undefined, "base64"], [0, ""], ["buffer", () => {}],
-    ]) {
-        assert.throws(() => call(...more), { name: "TypeError", message: /^an argument too many/ });
-    }
-};
-for (const more of [undefined, null, 0, 1, 2n, true, {}, { aad: undefined }, new Map(), "buffer"]) {
-    assert.deepEqual(kept.sealer(nonce, { aad }, more).update(first, more), body.slice(0, 20));
-    assert.deepEqual(kept.open(nonce, sealed, { aad }, more), text);
-}
-named.forEach((call) => extra((more) => call({ aad }, more)));
-named.forEach((call) => extra((more) => call(undefined, more)));
-extra((more) => new Key(aead, suite, key, more));
-extra((more) => keywrap.wrap(key, key, more));
-extra((more) => keywrap.unwrap(key, keywrap.wrap(key, key), more));
-extra((more) => keywrap.wrapPadded(key, nonce, more));
-extra((more) => keywrap.unwrapPadded(key, keywrap.wrapPadded(key, nonce), more));
-further((...more) => keywrap.wrap(key, key, ...more));
-further((...more) => keywrap.unwrap(key, keywrap.wrap(key, key), ...more));
-further((...more) => keywrap.wrapPadded(key, nonce, ...more));
-further((...more) => keywrap.unwrapPadded(key, keywrap.wrapPadded(key, nonce), ...more));
-extra((more) => sealing.update(first, more));
-further((...more) => sealing.update(first, ...more));
-const pieces = [first, rest].map(sealing.update, sealing);
-extra((more) => sealing.save(more));
-extra((more) => Sealer.resume(aead, suite, key, nonce, kept.sealer(nonce).save(), more));
-extra((more) => sealing.finish(more));
+const pieces = [text.subarray(0, 20), text.subarray(20)].map(sealing.update, sealing);
 assert.deepEqual(Buffer.concat([...pieces, sealing.finish()]), Buffer.from(sealed));
-extra((more) => opening.check(body, more));
-further((...more) => opening.check(body, ...more));
-await new Blob([body]).stream().pipeTo(new WritableStream({ write: opening.check.bind(opening) }));
-// A stream would drop what a method by itself returns, such as the tag. A method that returns nothing is let through.
-for (const transformer of [
-    { transform: (piece, controller) => controller.enqueue(piece), flush: sealing.finish.bind(sealing) },
-    { transform: sealing.update.bind(sealing) }, { transform: opening.update.bind(opening) },
-    { transform: reading.update.bind(reading) }, { flush: reading.beginSecond.bind(reading) },
-]) {
-    const stream = new Blob([first]).stream().pipeThrough(new TransformStream(transformer));
-    await assert.rejects(stream.pipeTo(new WritableStream()), { name: "TypeError", message: /^an argument too many/ });
-}
-const transforming = new Transform({ transform: sealing.update.bind(sealing) });
-assert.throws(() => transforming.write(first), { name: "TypeError", message: /^an argument too many/ });
-extra((more) => opening.beginSecond(more));
-opening.beginSecond();
-extra((more) => opening.update(body, more));
-further((...more) => opening.update(body, ...more));
-assert.deepEqual(opening.update(body), text);
-extra((more) => opening.save(more));
-extra((more) => Opener.resume(aead, suite, key, nonce, opening.save(), more));
-extra((more) => opening.finish(more));
-await new Blob([body]).stream().pipeThrough(new TransformStream({ flush: opening.finish.bind(opening) }))
-    .pipeTo(new WritableStream());
-assert.throws(() => opening.finish(), aeadkit.NotBegun);
-extra((more) => reading.absorb(first, more));
-further((...more) => reading.absorb(first, ...more));
-[first, rest].forEach(reading.absorb, reading);
-extra((more) => reading.beginSecond(more));
-const sivTag = reading.beginSecond();
-extra((more) => reading.update(first, more));
-further((...more) => reading.update(first, ...more));
-const sivPieces = [first, rest].map(reading.update, reading);
-extra((more) => reading.save(more));
-extra((more) => SivSealer.resume(aead, siv, key, nonce, new SivSealer(aead, siv, key, nonce).save(), more));
-extra((more) => reading.finish(more));
-reading.finish();
-assert.deepEqual(Buffer.concat([...sivPieces, sivTag]), Buffer.from(aead.seal(siv, key, nonce, text, { aad })));
 
 // Each result is a new array, and no argument changes.
 const before = [key, nonce, tag, text].map((array) => array.slice());
