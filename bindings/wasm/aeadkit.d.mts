@@ -51,8 +51,8 @@ export class NotBegun extends Refused { readonly fault: "NotBegun"; }
 export class NotSaved extends Refused { readonly fault: "NotSaved"; }
 
 /**
- * The options of a call: a plain object, of any realm, its last argument. A call throws a `TypeError` if it has a key of another
- * name, or an `aad` that is not its own, as a Proxy may.
+ * The options of a call, its last argument. A call throws a `TypeError` if it is given bytes in their place, or if they have a key
+ * of another name.
  */
 export interface Options {
     /** The associated data, which is authenticated and not encrypted, like the header of a message. Left out, it is empty. */
@@ -74,11 +74,10 @@ export interface Options {
  * as much as that needed.
  *
  * Here and in the classes below, a call throws a `TypeError`, before the faults that it names, if an argument is not a Uint8Array
- * or an `Aead` where one is required, or if its options are not a plain object. A call takes whole arrays: for a part of a buffer
- * pass `buffer.subarray(0, length)`. A TransformStream drops what a method by itself returns, such as the tag: write
- * `flush: (controller) => controller.enqueue(sealer.finish())`. `resume` throws a `TypeError` on a subclass, since its result
- * would be an object of the class itself. In version 2.0 the associated data stood before the text or the tag, as a Uint8Array:
- * such a call throws a `TypeError`.
+ * or an `Aead` where one is required, or if its options are bytes or have a key other than `aad`. A call takes whole arrays: for a
+ * part of a buffer pass `buffer.subarray(0, length)`. A TransformStream drops what a method by itself returns, such as the tag:
+ * write `flush: (controller) => controller.enqueue(sealer.finish())`. `resume` throws a `TypeError` on a subclass, since its
+ * result would be an object of the class itself.
  *
  * The time of a call may depend on secrets: AES, and the hashes of AES-GCM and AES-GCM-SIV, look up tables by secret bytes. A call
  * leaves zeros where its arguments and results stood in the module's memory, but not on the module's stack. The arrays that you

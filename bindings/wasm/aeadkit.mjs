@@ -100,59 +100,34 @@ const FAULTS = {
     13: SourceChanged, 14: UnknownSuite, 15: NotBegun,
 };
 
-// What every typed array says of itself. A subclass, a property of an array or a Proxy may say something else: another length,
-// another one each time, or after a call to the same module, whose memory holds the bytes of this call.
-const TypedArray = Object.getPrototypeOf(Uint8Array.prototype);
-const [kindOf, lengthOf, bufferOf, offsetOf] = [Symbol.toStringTag, "length", "buffer", "byteOffset"]
-    .map((name) => Object.getOwnPropertyDescriptor(TypedArray, name).get);
+// Whether data is a Uint8Array, also one of another realm, as of a frame.
+const isBytes = (data) => ArrayBuffer.isView(data) && data[Symbol.toStringTag] === "Uint8Array";
 
-// Returns the arguments as plain Uint8Arrays over the same memory. Throws if one is not a Uint8Array. An array whose memory is
-// gone has the length 0, but is not an empty text: its buffer was transferred, as to a worker, or became shorter.
-function wantBytes(...arrays) {
-    return arrays.map((array) => {
-        if (kindOf.call(array) !== "Uint8Array") {
-            throw new TypeError("a Uint8Array is required");
-        }
-        const length = lengthOf.call(array);
-        if (length === 0) {
-            try {
-                Uint8Array.prototype.keys.call(array);
-            } catch {
-                throw new TypeError("the memory of a Uint8Array is gone: its buffer was transferred or became shorter");
-            }
-        }
-        return new Uint8Array(bufferOf.call(array), offsetOf.call(array), length);
-    });
+// Throws if one of the arguments is not a Uint8Array.
+function wantBytes(...all) {
+    if (!all.every(isBytes)) {
+        throw new TypeError("a Uint8Array is required");
+    }
 }
 
-// Whether an object has no prototype, or the Object.prototype of a realm: this one, or one of a frame or of node:vm.
-function isPlain(object) {
-    const prototype = Object.getPrototypeOf(object);
-    return [Object.prototype, null].includes(prototype)
-        || Object.getPrototypeOf(prototype) === null && Object.hasOwn(prototype, "hasOwnProperty");
-}
-
-// Returns the associated data that options name, which is empty if they name none. Throws if they are not a plain object, as in
-// a call of version 2.0, whose last argument was a Uint8Array, or if they have a key of another name, or if it is not a
-// Uint8Array. Throws too if they have associated data that is not their own, as a Proxy may: it would be left out.
+// Returns the associated data that options name, which is empty if they name none. Throws if it is not a Uint8Array, or if it
+// would be left out: bytes in the place of the options, or a name that is misspelled.
 function aadOf(options) {
-    if (options === null || !isPlain(options) || Reflect.ownKeys(options).some((name) => name !== "aad")) {
+    const isWrong = ArrayBuffer.isView(options) || options instanceof ArrayBuffer;
+    if (isWrong || Object.keys(options).some((name) => name !== "aad")) {
         throw new TypeError("associated data is given by name: { aad }");
     }
-    const { aad } = options;
-    if (aad !== undefined && !Object.hasOwn(options, "aad")) {
-        throw new TypeError("associated data is given by name: { aad }");
-    }
-    return aad === undefined ? new Uint8Array(0) : wantBytes(aad)[0];
+    const { aad = new Uint8Array(0) } = options;
+    wantBytes(aad);
+    return aad;
 }
 
-// Returns a tag as a plain Uint8Array. Throws if it is not a Uint8Array of 16 bytes.
+// Throws if a tag is not a Uint8Array of 16 bytes.
 function wantTag(tag) {
-    const [bytes] = wantBytes(tag);
-    if (bytes.length !== TAG_BYTES) {
+    wantBytes(tag);
+    if (tag.length !== TAG_BYTES) {
         throw new TagLength();
     }
-    return bytes;
 }
 
 // Throws if a suite is not a number, which a module would read as one.
@@ -178,8 +153,7 @@ function grow(memory, pages) {
 const aligned = (place) => 8 * Math.ceil(place / 8);
 
 // How a call takes bytes: by their address, and by their length unless the call knows it. If `from` is given, the call reads its
-// bytes. If `to` is given, it gets the bytes that the call leaves. A Uint8Array by itself is an input. Each has its own `from` and
-// `to`, whatever a program adds to Object.prototype.
+// bytes. If `to` is given, it gets the bytes that the call leaves. A Uint8Array by itself is an input.
 const input = (from) => ({ from, to: undefined, hasLength: true });
 const output = (to) => ({ from: undefined, to, hasLength: true });
 const inPlace = (from, to = from) => ({ from, to, hasLength: true });
@@ -219,7 +193,7 @@ class Module {
             if (typeof word === "number") {
                 return [word];
             }
-            const { from, to, hasLength } = word instanceof Uint8Array ? input(word) : word;
+            const { from, to, hasLength } = isBytes(word) ? input(word) : word;
             const { length } = from ?? to;
             const place = end;
             placed.push({ from, to, place, length });
@@ -313,7 +287,7 @@ function wantItself(receiver, Class) {
 // of the layout and, in its lowest byte, the suite.
 function resumed(aead, kind, length, suite, key, nonce, saved) {
     const module = moduleOf(aead);
-    [key, nonce, saved] = wantBytes(key, nonce, saved);
+    wantBytes(key, nonce, saved);
     wantNumber(suite);
     if (saved.length !== length || saved[0] !== suite) {
         throw new NotSaved();
@@ -345,7 +319,7 @@ export class Aead {
     /** Returns the ciphertext and then the tag of 16 bytes. Never use a nonce twice under one key. */
     seal(suite, key, nonce, text, options = {}) {
         const aad = aadOf(options);
-        [key, nonce, text] = wantBytes(key, nonce, text);
+        wantBytes(key, nonce, text);
         wantNumber(suite);
         return this.#module.made(text.length + TAG_BYTES, "aeadkit_seal", suite, key, nonce, aad, text);
     }
@@ -353,7 +327,7 @@ export class Aead {
     /** Returns the text of what `seal` made. */
     open(suite, key, nonce, sealed, options = {}) {
         const aad = aadOf(options);
-        [key, nonce, sealed] = wantBytes(key, nonce, sealed);
+        wantBytes(key, nonce, sealed);
         wantNumber(suite);
         return this.#module.made(Math.max(0, sealed.length - TAG_BYTES), "aeadkit_open", suite, key, nonce, aad, sealed);
     }
@@ -361,7 +335,7 @@ export class Aead {
     /** Seals a text where it stands, and returns the tag of 16 bytes. Never use a nonce twice under one key. */
     sealInPlace(suite, key, nonce, text, options = {}) {
         const aad = aadOf(options);
-        [key, nonce, text] = wantBytes(key, nonce, text);
+        wantBytes(key, nonce, text);
         wantNumber(suite);
         const tag = new Uint8Array(TAG_BYTES);
         this.#module.call("aeadkit_seal_in_place", suite, key, nonce, aad, inPlace(text), result(tag));
@@ -371,8 +345,8 @@ export class Aead {
     /** Opens a ciphertext where it stands, with its tag of 16 bytes. */
     openInPlace(suite, key, nonce, ciphertext, tag, options = {}) {
         const aad = aadOf(options);
-        [key, nonce, ciphertext] = wantBytes(key, nonce, ciphertext);
-        tag = wantTag(tag);
+        wantBytes(key, nonce, ciphertext);
+        wantTag(tag);
         wantNumber(suite);
         this.#module.call("aeadkit_open_in_place", suite, key, nonce, aad, inPlace(ciphertext), constant(tag));
     }
@@ -429,7 +403,7 @@ export class Key {
 
     constructor(aead, suite, key) {
         this.#module = moduleOf(aead);
-        [key] = wantBytes(key);
+        wantBytes(key);
         wantNumber(suite);
         this.#suite = suite;
         this.#struct = new Struct(this.#module, "key", "aeadkit_key_init", suite, key);
@@ -443,14 +417,14 @@ export class Key {
     /** Returns the ciphertext and then the tag of 16 bytes. Never use a nonce twice under one key. */
     seal(nonce, text, options = {}) {
         const aad = aadOf(options);
-        [nonce, text] = wantBytes(nonce, text);
+        wantBytes(nonce, text);
         return this.#module.made(text.length + TAG_BYTES, "aeadkit_seal_with", this.#struct.constant, nonce, aad, text);
     }
 
     /** Returns the text of what `seal` made. */
     open(nonce, sealed, options = {}) {
         const aad = aadOf(options);
-        [nonce, sealed] = wantBytes(nonce, sealed);
+        wantBytes(nonce, sealed);
         const length = Math.max(0, sealed.length - TAG_BYTES);
         return this.#module.made(length, "aeadkit_open_with", this.#struct.constant, nonce, aad, sealed);
     }
@@ -458,7 +432,7 @@ export class Key {
     /** Seals a text where it stands, and returns the tag of 16 bytes. Never use a nonce twice under one key. */
     sealInPlace(nonce, text, options = {}) {
         const aad = aadOf(options);
-        [nonce, text] = wantBytes(nonce, text);
+        wantBytes(nonce, text);
         const tag = new Uint8Array(TAG_BYTES);
         this.#module.call("aeadkit_seal_in_place_with", this.#struct.constant, nonce, aad, inPlace(text), result(tag));
         return tag;
@@ -467,23 +441,23 @@ export class Key {
     /** Opens a ciphertext where it stands, with its tag of 16 bytes. */
     openInPlace(nonce, ciphertext, tag, options = {}) {
         const aad = aadOf(options);
-        [nonce, ciphertext] = wantBytes(nonce, ciphertext);
-        tag = wantTag(tag);
+        wantBytes(nonce, ciphertext);
+        wantTag(tag);
         this.#module.call("aeadkit_open_in_place_with", this.#struct.constant, nonce, aad, inPlace(ciphertext), constant(tag));
     }
 
     /** Begins a sealing in pieces, of an empty text so far. Never use a nonce twice under one key. */
     sealer(nonce, options = {}) {
         const aad = aadOf(options);
-        [nonce] = wantBytes(nonce);
+        wantBytes(nonce);
         return new Sealer(new Struct(this.#module, "sealer", "aeadkit_sealer_init_with", this.#struct.constant, nonce, aad));
     }
 
     /** Begins an opening in pieces of a ciphertext with a tag of 16 bytes. */
     opener(nonce, tag, options = {}) {
         const aad = aadOf(options);
-        [nonce] = wantBytes(nonce);
-        tag = wantTag(tag);
+        wantBytes(nonce);
+        wantTag(tag);
         const words = [this.#struct.constant, nonce, aad, constant(tag)];
         return new Opener(new Struct(this.#module, "opener", "aeadkit_opener_init_with", ...words));
     }
@@ -491,7 +465,7 @@ export class Key {
     /** Begins a sealing in pieces under AES-GCM-SIV, of an empty text so far. Never use a nonce twice under one key. */
     sivSealer(nonce, options = {}) {
         const aad = aadOf(options);
-        [nonce] = wantBytes(nonce);
+        wantBytes(nonce);
         return new SivSealer(new Struct(this.#module, "siv", "aeadkit_siv_init_with", this.#struct.constant, nonce, aad));
     }
 
@@ -514,14 +488,14 @@ export class Sealer {
         }
         const module = moduleOf(aead);
         const aad = aadOf(options);
-        [key, nonce] = wantBytes(key, nonce);
+        wantBytes(key, nonce);
         wantNumber(suite);
         this.#struct = new Struct(module, "sealer", "aeadkit_sealer_init", suite, key, nonce, aad);
     }
 
     /** Returns the ciphertext of the next piece of the text, of any length. */
     update(piece) {
-        [piece] = wantBytes(piece);
+        wantBytes(piece);
         return this.#struct.changed("aeadkit_sealer_update", piece);
     }
 
@@ -566,15 +540,15 @@ export class Opener {
         }
         const module = moduleOf(aead);
         const aad = aadOf(options);
-        [key, nonce] = wantBytes(key, nonce);
-        tag = wantTag(tag);
+        wantBytes(key, nonce);
+        wantTag(tag);
         wantNumber(suite);
         this.#struct = new Struct(module, "opener", "aeadkit_opener_init", suite, key, nonce, aad, constant(tag));
     }
 
     /** Takes the next piece of the ciphertext in the first pass. */
     check(piece) {
-        [piece] = wantBytes(piece);
+        wantBytes(piece);
         this.#struct.call("aeadkit_opener_check", piece);
     }
 
@@ -585,7 +559,7 @@ export class Opener {
 
     /** Returns the text of the next piece of the ciphertext in the second pass. */
     update(piece) {
-        [piece] = wantBytes(piece);
+        wantBytes(piece);
         return this.#struct.changed("aeadkit_opener_update", piece);
     }
 
@@ -627,14 +601,14 @@ export class SivSealer {
         }
         const module = moduleOf(aead);
         const aad = aadOf(options);
-        [key, nonce] = wantBytes(key, nonce);
+        wantBytes(key, nonce);
         wantNumber(suite);
         this.#struct = new Struct(module, "siv", "aeadkit_siv_init", suite, key, nonce, aad);
     }
 
     /** Takes the next piece of the text in the first reading. */
     absorb(piece) {
-        [piece] = wantBytes(piece);
+        wantBytes(piece);
         this.#struct.call("aeadkit_siv_absorb", piece);
     }
 
@@ -645,7 +619,7 @@ export class SivSealer {
 
     /** Returns the ciphertext of the next piece of the text in the second reading. */
     update(piece) {
-        [piece] = wantBytes(piece);
+        wantBytes(piece);
         return this.#struct.changed("aeadkit_siv_update", piece);
     }
 
@@ -684,25 +658,25 @@ export class KeyWrap {
 
     /** Returns the wrapping of a text, which is 8 bytes longer. */
     wrap(key, text) {
-        [key, text] = wantBytes(key, text);
+        wantBytes(key, text);
         return this.#module.made(text.length + WRAP_BYTES, "aeadkit_wrap", key, text);
     }
 
     /** Returns the text of what `wrap` made. */
     unwrap(key, wrapped) {
-        [key, wrapped] = wantBytes(key, wrapped);
+        wantBytes(key, wrapped);
         return this.#module.made(Math.max(0, wrapped.length - WRAP_BYTES), "aeadkit_unwrap", key, wrapped);
     }
 
     /** Returns the wrapping with padding of a text of 1 to 2^32 - 1 bytes. */
     wrapPadded(key, text) {
-        [key, text] = wantBytes(key, text);
+        wantBytes(key, text);
         return this.#module.made(aligned(text.length) + WRAP_BYTES, "aeadkit_wrap_padded", key, text);
     }
 
     /** Returns the text of what `wrapPadded` made. */
     unwrapPadded(key, wrapped) {
-        [key, wrapped] = wantBytes(key, wrapped);
+        wantBytes(key, wrapped);
         const text = new Uint8Array(Math.max(0, wrapped.length - WRAP_BYTES));
         const length = new Uint8Array(8);
         this.#module.call("aeadkit_unwrap_padded", key, wrapped, output(text), result(length));

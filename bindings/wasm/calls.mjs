@@ -175,41 +175,13 @@ const named = [
     (...options) => new Opener(aead, suite, key, nonce, tag, ...options),
     (...options) => new SivSealer(aead, siv, key, nonce, ...options),
 ];
-// The options are a plain object with no key but aad, or else a TypeError is thrown before any fault.
-const byName = { name: "TypeError", message: "associated data is given by name: { aad }" };
-for (const other of [
-    aad, none, Buffer.from(aad), new ArrayBuffer(16), new SharedArrayBuffer(16), new Uint16Array(16),
-    new DataView(new ArrayBuffer(16)), [], [aad], "", "aad", 0, 16, 1n, true, false, null, Symbol("aad"), () => aad,
-    new Map([["aad", aad]]), new (class { aad = aad; })(), Object.create({ aad }), { add: aad }, { AAD: aad }, { aad, add: aad },
-    { aad, tag: undefined }, { [Symbol("aad")]: aad }, Object.defineProperty({}, "add", { value: aad }),
-    // their aad is not their own, and would be left out
-    new Proxy({}, { get: () => aad }), new Proxy({}, { get: () => aad, ownKeys: () => ["aad"] }),
-    Object.create({ __proto__: null, aad }), Object.create({ __proto__: null, add: aad }),
-    ...runInNewContext("[[aad], { add: aad }, { aad, add: aad }, Object.create({ aad }), new (class { aad = aad; })()]", { aad }),
-]) {
+// Bytes in the place of the options, or a name that is misspelled, would be left out: a TypeError is thrown before any fault.
+for (const other of [aad, Buffer.from(aad), new ArrayBuffer(16), new Uint16Array(16), "aad", { add: aad }, { aad, add: aad }]) {
     for (const call of named) {
-        assert.throws(() => call(other), byName);
+        assert.throws(() => call(other), { name: "TypeError", message: "associated data is given by name: { aad }" });
     }
 }
 named.forEach((call) => call({ aad }));
-named.forEach((call) => call({ __proto__: null, aad }));
-// They may be an object of another realm, as of a frame.
-named.forEach((call) => call(runInNewContext("({ aad })", { aad })));
-assert.deepEqual(kept.seal(nonce, text, runInNewContext("({ aad })", { aad })), sealed);
-assert.deepEqual(kept.seal(nonce, text, runInNewContext("({})")), kept.seal(nonce, text));
-assert.deepEqual(kept.seal(nonce, text, new Proxy({ aad }, {})), sealed);
-
-// A call in the order of version 2.0, whose associated data stood before the text or the tag, throws that TypeError.
-for (const call of [
-    () => aead.seal(suite, key, nonce, aad, text), () => aead.seal(suite, key, nonce, none, text),
-    () => aead.seal(suite, key, nonce, aad, none), () => aead.open(suite, key, nonce, aad, sealed),
-    () => aead.open(suite, key, nonce, none, sealed), () => kept.seal(nonce, aad, text), () => kept.open(nonce, aad, sealed),
-    () => kept.sealer(nonce, aad), () => kept.sealer(nonce, none), () => new Sealer(aead, suite, key, nonce, aad),
-    () => new Opener(aead, suite, key, nonce, aad, tag), () => new Opener(aead, suite, key, nonce, none, tag),
-    () => new SivSealer(aead, siv, key, nonce, aad), () => aead.seal(9, none, none, none, none),
-]) {
-    assert.throws(call, byName);
-}
 
 // Nothing but a Uint8Array is taken for bytes; a Buffer is one.
 for (const other of ["a text", [1, 2], 16, null, new ArrayBuffer(16), new Uint16Array(16), new DataView(new ArrayBuffer(16))]) {
@@ -377,105 +349,13 @@ assert(isZero());
 assert.throws(() => held.openInPlace(nonce, text.slice(), tag), aeadkit.TagMismatch);
 assert(isZero());
 
-// An array whose memory is gone has the length 0 and is not an empty text. It is refused before any bytes are placed.
-const transferred = text.slice();
-structuredClone(transferred, { transfer: [transferred.buffer] });
-const shortened = new Uint8Array(new ArrayBuffer(40, { maxByteLength: 80 }), 8, 16);
-shortened.buffer.resize(10);
-for (const other of [transferred, shortened]) {
-    assert.equal(other.length, 0);
-    for (const call of [
-        () => held.seal(nonce, other), () => held.seal(nonce, text, { aad: other }), () => held.open(nonce, other),
-        () => held.sealInPlace(nonce, other), () => held.openInPlace(nonce, other, tag), () => held.sealer(nonce).update(other),
-        () => held.opener(nonce, tag).check(other), () => new SivSealer(watched, siv, key, nonce).absorb(other),
-        () => watched.seal(suite, key, nonce, other), () => new Key(watched, suite, other), () => keywrap.wrapPadded(key, other),
-    ]) {
-        assert.throws(call, { name: "TypeError", message: /^the memory of a Uint8Array is gone/ });
-        assert(isZero());
-    }
-}
-
-// What an array says of itself does not count: a subclass or a property may state another length, or hold the results back.
 // An array of another realm, as of a frame, is a Uint8Array too.
-class Odd extends Uint8Array {
-    get length() {
-        return 5;
-    }
-
-    set() {}
-}
-for (const kind of [
-    (bytes) => {
-        const made = new Odd(bytes.length);
-        Uint8Array.prototype.set.call(made, bytes);
-        return made;
-    },
-    (bytes) => Object.defineProperty(bytes.slice(), "length", { value: 99 }),
-    (bytes) => Object.defineProperty(bytes.slice(), "set", { value: () => {} }),
-    (bytes) => runInNewContext("Uint8Array.from(bytes)", { bytes }),
-]) {
-    assert.deepEqual(kept.seal(kind(nonce), kind(text), { aad: kind(aad) }), sealed);
-    assert.deepEqual(new Key(aead, suite, kind(key)).open(kind(nonce), kind(sealed), { aad: kind(aad) }), text);
-    const changed = kind(text);
-    const itsTag = kept.sealInPlace(nonce, changed, { aad });
-    assert.deepEqual([...new Uint8Array(changed.buffer), ...itsTag], [...sealed]);
-    kept.openInPlace(nonce, changed, kind(itsTag), { aad });
-    assert.deepEqual(new Uint8Array(changed.buffer), text);
-    const sealer = kept.sealer(nonce, { aad });
-    const head = sealer.update(kind(text.slice(0, 20)));
-    const resumed = Sealer.resume(aead, suite, kind(key), kind(nonce), kind(sealer.save()));
-    assert.deepEqual([...head, ...resumed.update(kind(text.slice(20))), ...resumed.finish()], [...sealed]);
-    const opener = kept.opener(nonce, kind(itsTag), { aad });
-    opener.check(kind(sealed.slice(0, -16)));
-    opener.beginSecond();
-    assert.deepEqual(opener.update(kind(sealed.slice(0, -16))), text);
-    opener.finish();
-    assert.deepEqual(keywrap.unwrapPadded(kind(key), keywrap.wrapPadded(key, kind(text))), text);
-}
-
-// A Proxy is refused: what it says may change from one look to the next, and a look may call the module, whose memory has the key then.
-const calling = new Proxy(text.slice(), {
-    get(target, name) {
-        aead.seal(suite, new Uint8Array(16), nonce, text);
-        return Reflect.get(target, name);
-    },
-});
-for (const call of [
-    () => kept.seal(nonce, calling), () => kept.seal(nonce, text, { aad: calling }), () => kept.sealInPlace(nonce, calling),
-    () => new Key(aead, suite, calling), () => kept.sealer(nonce).update(calling), () => keywrap.wrap(key, calling),
-    () => Sealer.resume(aead, suite, key, nonce, calling), () => kept.seal(nonce, Object.create(text)),
-    () => kept.seal(nonce, Object.create(Uint8Array.prototype)),
-]) {
-    assert.throws(call, { name: "TypeError", message: "a Uint8Array is required" });
-}
-// Options may call the module, so they are read before anything else.
-const options = {
-    get aad() {
-        return kept.seal(nonce, text).subarray(-16);
-    },
-};
-assert.deepEqual(kept.seal(nonce, text, options), kept.seal(nonce, text, { aad: options.aad }));
-
-// What another part of the program adds to Object.prototype changes no result, as a tag that is zeros.
-for (const name of ["from", "to", "hasLength"]) {
-    for (const value of [[], new Uint8Array(3), "abc", 5]) {
-        Object.defineProperty(Object.prototype, name, { value, configurable: true, writable: true });
-        try {
-            const changed = text.slice();
-            const itsTag = kept.sealInPlace(nonce, changed, { aad });
-            assert.equal(Buffer.compare(Buffer.concat([changed, itsTag]), sealed), 0);
-            const sealer = kept.sealer(nonce, { aad });
-            const head = sealer.update(text.subarray(0, 20));
-            const resumed = Sealer.resume(aead, suite, key, nonce, sealer.save());
-            const parts = [head, resumed.update(text.subarray(20)), resumed.finish()];
-            assert.equal(Buffer.compare(Buffer.concat(parts), sealed), 0);
-            assert.equal(Buffer.compare(kept.open(nonce, kept.seal(nonce, text)), text), 0);
-            assert.equal(Buffer.compare(keywrap.unwrapPadded(key, keywrap.wrapPadded(key, nonce)), nonce), 0);
-        } finally {
-            delete Object.prototype[name];
-        }
-    }
-}
+const foreign = (bytes) => runInNewContext("Uint8Array.from(bytes)", { bytes });
+assert.deepEqual(kept.seal(foreign(nonce), foreign(text), { aad: foreign(aad) }), sealed);
+assert.deepEqual(new Key(aead, suite, foreign(key)).open(foreign(nonce), foreign(sealed), { aad: foreign(aad) }), text);
+const changed = foreign(text);
+const changedTag = kept.sealInPlace(nonce, changed, { aad });
+assert.deepEqual([...changed, ...changedTag], [...sealed]);
 
 // A call that the host cuts off, since its stack is full, changes nothing, and the calls after it give the right results.
 const atTheEndOfTheStack = (call) => {
