@@ -14,7 +14,7 @@ if ! node --version > "$room/log" 2>&1; then
     echo "left out: JavaScript, no node"
     exit 0
 fi
-cp wasm/example.mjs wasm/calls.mjs wasm/saved.mjs ../docs/published.vectors "$room/"
+cp wasm/example.mjs wasm/calls.mjs ../docs/published.vectors "$room/"
 # Otherwise npm would install into a folder above that has a package.json, whose "type" would count here too.
 echo '{ "private": true }' > "$room/package.json"
 by=npm
@@ -41,7 +41,7 @@ said=$(cd "$room" && node $flag -e 'import("aeadkit/node").then(({ aead }) => co
     || { cat "$room/log" >&2; exit 1; }
 version=$(sed -n 's/^ *"version": "\(.*\)",$/\1/p' "$package/package.json")
 [ "$said" = "$version" ] || { echo "aeadkit.wasm is of version $said and not $version; wasm.sh builds it" >&2; exit 1; }
-for name in example calls saved; do
+for name in example calls; do
     (cd "$room" && node $flag $name.mjs) > "$room/log" 2>&1 || { cat "$room/log" >&2; exit 1; }
 done
 echo "ok: JavaScript ($by)"

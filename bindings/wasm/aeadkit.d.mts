@@ -16,7 +16,7 @@ export type Suite = (typeof Suite)[keyof typeof Suite];
 /** The names of the faults, each of which has a class. */
 export type Fault =
     | "KeyLength" | "NonceLength" | "TextTooLong" | "AadTooLong" | "TooShort" | "TagMismatch" | "TagLength" | "WrapLength"
-    | "WrapIntegrity" | "SourceChanged" | "UnknownSuite" | "NotBegun" | "NotSaved";
+    | "WrapIntegrity" | "SourceChanged" | "UnknownSuite" | "NotBegun";
 
 /** Why a call failed: each fault is a class that extends this one. */
 export abstract class Refused extends Error {
@@ -47,8 +47,6 @@ export class SourceChanged extends Refused { readonly fault: "SourceChanged"; }
 export class UnknownSuite extends Refused { readonly fault: "UnknownSuite"; }
 /** The key or the state is wiped, or the state is finished, or is not in the pass or reading that the call belongs to. */
 export class NotBegun extends Refused { readonly fault: "NotBegun"; }
-/** The bytes are not a saved state of this class, suite, key and nonce, in the layout of this module. */
-export class NotSaved extends Refused { readonly fault: "NotSaved"; }
 
 /**
  * The options of a call, its last argument. A call throws a `TypeError` if it is given bytes in their place, or if they have a key
@@ -76,8 +74,7 @@ export interface Options {
  * Here and in the classes below, a call throws a `TypeError`, before the faults that it names, if an argument is not a Uint8Array
  * or an `Aead` where one is required, or if its options are bytes or have a key other than `aad`. A call takes whole arrays: for a
  * part of a buffer pass `buffer.subarray(0, length)`. A TransformStream drops what a method by itself returns, such as the tag:
- * write `flush: (controller) => controller.enqueue(sealer.finish())`. `resume` throws a `TypeError` on a subclass, since its
- * result would be an object of the class itself.
+ * write `flush: (controller) => controller.enqueue(sealer.finish())`.
  *
  * The time of a call may depend on secrets: AES, and the hashes of AES-GCM and AES-GCM-SIV, look up tables by secret bytes. A call
  * leaves zeros where its arguments and results stood in the module's memory, but not on the module's stack. The arrays that you
@@ -256,35 +253,13 @@ export class Sealer {
     /**
      * Returns the ciphertext of the next piece of the text, of any length.
      *
-     * Throws `NotBegun` after `finish`, `save` or `wipe`, and `TextTooLong`, after which the piece does not count and a shorter one
-     * may follow.
+     * Throws `NotBegun` after `finish` or `wipe`, and `TextTooLong`, after which the piece does not count and a shorter one may
+     * follow.
      */
     update(piece: Uint8Array): Uint8Array;
 
-    /** Ends the sealing, and returns the tag of 16 bytes. Throws `NotBegun` if `finish`, `save` or `wipe` ended it before. */
+    /** Ends the sealing, and returns the tag of 16 bytes. Throws `NotBegun` if `finish` or `wipe` ended it before. */
     finish(): Uint8Array;
-
-    /**
-     * Ends the sealing here, and returns the 96 bytes that `resume` takes to go on with it, after a restart, say. Throws
-     * `NotBegun` as `finish` does.
-     *
-     * NEVER RESUME ONE SAVED STATE TWICE. Two texts would be sealed under one nonce, which gives away their XOR, and enough to
-     * forge messages. Mark the stored state as used before the first piece that follows it is sealed. If it is not
-     * known after a crash whether it was used, begin a new sealing under a new nonce.
-     *
-     * Keep the bytes as secret as the key, since messages can be forged with them, and where nobody else can write, since nothing
-     * authenticates them. The key, the nonce and the place that was reached in the text are not among them.
-     */
-    save(): Uint8Array;
-
-    /**
-     * Goes on with the sealing that `save` ended. Suite, key and nonce are those that it was begun with. Never resume one saved
-     * state twice: see `save`.
-     *
-     * Throws the first of these that applies: `UnknownSuite` if the suite is not a number, `NotSaved`, `KeyLength`, `NonceLength`,
-     * `NotSaved` if the saved state is one of another key or nonce.
-     */
-    static resume(aead: Aead, suite: Suite, key: Uint8Array, nonce: Uint8Array, saved: Uint8Array): Sealer;
 
     /** Gives the sealing up, and leaves zeros in its memory, as `finish` does. Each other call after it throws `NotBegun`. */
     wipe(): void;
@@ -332,24 +307,6 @@ export class Opener {
      */
     finish(): void;
 
-    /**
-     * Returns the 144 bytes that `resume` takes to go on from here, in either pass. The opening itself goes on too. Throws
-     * `NotBegun` after the opening has ended.
-     *
-     * Keep the bytes as secret as the key, and where nobody else can write: that the first pass was authenticated is known from
-     * them alone. The key, the nonce and the place that was reached in the ciphertext are not among them.
-     */
-    save(): Uint8Array;
-
-    /**
-     * Goes on with the opening that `save` saved, in the pass that it was in. Suite, key and nonce are those that it was begun
-     * with.
-     *
-     * Throws the first of these that applies: `UnknownSuite` if the suite is not a number, `NotSaved`, `KeyLength`, `NonceLength`,
-     * `NotSaved` if the saved state is one of another key or nonce.
-     */
-    static resume(aead: Aead, suite: Suite, key: Uint8Array, nonce: Uint8Array, saved: Uint8Array): Opener;
-
     /** Gives the opening up, and leaves zeros in its memory, as `finish` does. Each other call after it throws `NotBegun`. */
     wipe(): void;
 }
@@ -374,21 +331,21 @@ export class SivSealer {
     /**
      * Takes the next piece of the text in the first reading.
      *
-     * Throws `NotBegun` after the first reading, `save` or `wipe`, and `TextTooLong`, after which the piece does not count and a
+     * Throws `NotBegun` after the first reading or `wipe`, and `TextTooLong`, after which the piece does not count and a
      * shorter one may follow.
      */
     absorb(piece: Uint8Array): void;
 
     /**
-     * Ends the first reading and begins the second. Returns the tag of 16 bytes. Throws `NotBegun` after the first reading, `save`
-     * or `wipe`.
+     * Ends the first reading and begins the second. Returns the tag of 16 bytes. Throws `NotBegun` after the first reading or
+     * `wipe`.
      */
     beginSecond(): Uint8Array;
 
     /**
      * Returns the ciphertext of the next piece of the text in the second reading, which may be used once `finish` has returned.
      *
-     * Throws `NotBegun` before `beginSecond` and after `finish`, `save` or `wipe`, and `SourceChanged` if the second reading would
+     * Throws `NotBegun` before `beginSecond` and after `finish` or `wipe`, and `SourceChanged` if the second reading would
      * be longer than the first, after which the piece does not count.
      */
     update(piece: Uint8Array): Uint8Array;
@@ -398,28 +355,6 @@ export class SivSealer {
      * the first: throw away what `update` returned then. Throws `NotBegun` as `update` does.
      */
     finish(): void;
-
-    /**
-     * Ends the sealing here, and returns the 144 bytes that `resume` takes to go on with it, in either reading, after a restart,
-     * say. Throws `NotBegun` after the sealing has ended.
-     *
-     * NEVER RESUME ONE SAVED STATE TWICE. Two texts would be encrypted with one key stream, which gives away their XOR. Mark the
-     * stored state as used before the first piece that follows it is sealed. If it is not known after a crash whether it was
-     * used, begin a new sealing under a new nonce.
-     *
-     * Keep the bytes as secret as the key, since messages can be forged with them, and where nobody else can write, since nothing
-     * authenticates them. The key, the nonce and the place that was reached in the text are not among them.
-     */
-    save(): Uint8Array;
-
-    /**
-     * Goes on with the sealing that `save` ended, in the reading that it was in. Suite, key and nonce are those that it was begun
-     * with. Never resume one saved state twice: see `save`.
-     *
-     * Throws the first of these that applies: `UnknownSuite` if the suite is not a number, `NotSaved`, `KeyLength`, `NonceLength`,
-     * `NotSaved` if the saved state is one of another key or nonce.
-     */
-    static resume(aead: Aead, suite: Suite, key: Uint8Array, nonce: Uint8Array, saved: Uint8Array): SivSealer;
 
     /** Gives the sealing up, and leaves zeros in its memory, as `finish` does. Each other call after it throws `NotBegun`. */
     wipe(): void;

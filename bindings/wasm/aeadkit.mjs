@@ -89,11 +89,6 @@ export class NotBegun extends Refused {
     static message = "not begun, or already finished";
 }
 
-export class NotSaved extends Refused {
-    static fault = "NotSaved";
-    static message = "not a saved state of this class, suite, key and nonce";
-}
-
 // The faults by their statuses. The length of a tag has none, since the library takes 16 bytes.
 const FAULTS = {
     1: KeyLength, 2: NonceLength, 3: TextTooLong, 4: AadTooLong, 5: TooShort, 6: TagMismatch, 7: WrapLength, 8: WrapIntegrity,
@@ -270,34 +265,6 @@ class Struct {
 
 // The module of an Aead, for the classes beside it.
 let moduleOf;
-
-// The lengths of saved states in bytes.
-const SAVED_SEALER_BYTES = 96;
-const SAVED_PASSES_BYTES = 144;
-
-// Throws if `resume` is called on a subclass: what it returns would not have the subclass's own calls, such as an `update` that
-// writes what it returns.
-function wantItself(receiver, Class) {
-    if (receiver?.prototype instanceof Class) {
-        throw new TypeError("resume returns no object of a subclass: call it on Sealer, Opener or SivSealer");
-    }
-}
-
-// Returns the struct of a kind that was saved as these bytes. The first 8 are a mark, which names the kind, the pass, the version
-// of the layout and, in its lowest byte, the suite.
-function resumed(aead, kind, length, suite, key, nonce, saved) {
-    const module = moduleOf(aead);
-    wantBytes(key, nonce, saved);
-    wantNumber(suite);
-    if (saved.length !== length || saved[0] !== suite) {
-        throw new NotSaved();
-    }
-    try {
-        return new Struct(module, kind, `aeadkit_${kind}_resume`, key, nonce, constant(saved));
-    } catch (error) {
-        throw error instanceof NotBegun || error instanceof TagMismatch ? new NotSaved() : error;
-    }
-}
 
 /** The calls of aeadkit.wasm that seal and open. The constructor takes the bytes of that file. */
 export class Aead {
@@ -481,7 +448,7 @@ export class Sealer {
 
     /** Begins a sealing with the calls of an Aead, of an empty text so far. Never use a nonce twice under one key. */
     constructor(aead, suite, key, nonce, options = {}) {
-        // what a Key began, or what was resumed
+        // what a Key began
         if (aead instanceof Struct) {
             this.#struct = aead;
             return;
@@ -504,20 +471,6 @@ export class Sealer {
         return this.#struct.made(TAG_BYTES, "aeadkit_sealer_finish");
     }
 
-    /** Ends the sealing here, and returns the bytes that `resume` takes. Never resume from them twice. */
-    save() {
-        const saved = this.#struct.made(SAVED_SEALER_BYTES, "aeadkit_sealer_save");
-        // not `this.wipe()`, which a subclass may replace
-        this.#struct.call("aeadkit_sealer_wipe");
-        return saved;
-    }
-
-    /** Goes on with the sealing that `save` ended. Never resume one saved state twice. */
-    static resume(aead, suite, key, nonce, saved) {
-        wantItself(this, Sealer);
-        return new Sealer(resumed(aead, "sealer", SAVED_SEALER_BYTES, suite, key, nonce, saved));
-    }
-
     /** Gives the sealing up, and leaves zeros in its memory. */
     wipe() {
         this.#struct.call("aeadkit_sealer_wipe");
@@ -533,7 +486,7 @@ export class Opener {
 
     /** Begins an opening of a ciphertext with a tag of 16 bytes, with the calls of an Aead. */
     constructor(aead, suite, key, nonce, tag, options = {}) {
-        // what a Key began, or what was resumed
+        // what a Key began
         if (aead instanceof Struct) {
             this.#struct = aead;
             return;
@@ -568,17 +521,6 @@ export class Opener {
         this.#struct.call("aeadkit_opener_finish");
     }
 
-    /** Returns the bytes that `resume` takes to go on from here. */
-    save() {
-        return this.#struct.made(SAVED_PASSES_BYTES, "aeadkit_opener_save");
-    }
-
-    /** Goes on with the opening that `save` saved, in the pass that it was in. */
-    static resume(aead, suite, key, nonce, saved) {
-        wantItself(this, Opener);
-        return new Opener(resumed(aead, "opener", SAVED_PASSES_BYTES, suite, key, nonce, saved));
-    }
-
     /** Gives the opening up, and leaves zeros in its memory. */
     wipe() {
         this.#struct.call("aeadkit_opener_wipe");
@@ -594,7 +536,7 @@ export class SivSealer {
 
     /** Begins a sealing with the calls of an Aead, of an empty text so far. Never use a nonce twice under one key. */
     constructor(aead, suite, key, nonce, options = {}) {
-        // what a Key began, or what was resumed
+        // what a Key began
         if (aead instanceof Struct) {
             this.#struct = aead;
             return;
@@ -626,20 +568,6 @@ export class SivSealer {
     /** Ends the second reading. After `SourceChanged`, if it read another text, throw away what `update` returned. */
     finish() {
         this.#struct.call("aeadkit_siv_finish");
-    }
-
-    /** Ends the sealing here, and returns the bytes that `resume` takes. Never resume from them twice. */
-    save() {
-        const saved = this.#struct.made(SAVED_PASSES_BYTES, "aeadkit_siv_save");
-        // not `this.wipe()`, which a subclass may replace
-        this.#struct.call("aeadkit_siv_wipe");
-        return saved;
-    }
-
-    /** Goes on with the sealing that `save` ended. Never resume one saved state twice. */
-    static resume(aead, suite, key, nonce, saved) {
-        wantItself(this, SivSealer);
-        return new SivSealer(resumed(aead, "siv", SAVED_PASSES_BYTES, suite, key, nonce, saved));
     }
 
     /** Gives the sealing up, and leaves zeros in its memory. */
