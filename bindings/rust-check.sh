@@ -72,9 +72,9 @@ line=$(sed -n "s|FOLDER|$room/copied|g; s|^ *\(.*cargo run --offline --manifest-
 (PREFIX=$prefix && eval "$line") > "$room/log" 2>&1 || { cat "$room/log" >&2; exit 1; }
 ! (PREFIX=$prefix && eval "$line") > "$room/log" 2>&1 || { echo "the line of README runs an earlier copy" >&2; exit 1; }
 
-# What does not compile: a tag, a saved sealing or the part of an output that is the text, if it is dropped, a text exchanged with
-# its associated data, a key to wrap exchanged with the key that wraps it, a nonce of another length, a copy of a state, a sealing
-# that goes on after it was saved, and the calls of 2.1 that took room for a tag.
+# What does not compile: a tag or the part of an output that is the text, if it is dropped, a text exchanged with its associated
+# data, a key to wrap exchanged with the key that wraps it, a nonce of another length, a copy of a state, a sealing that goes on
+# after it was finished, and the calls of 2.1 that took room for a tag.
 user wrong
 # Whether a line compiles: compiles LINE
 compiles() {
@@ -101,7 +101,6 @@ compiles 'let wrapped = aeadkit::wrap_to_vec(WrappingKey(&[0; 16]), &text)?; key
 refused 'unused `Tag` that must be used' 'key.seal_in_place(&[0; 12], &mut text, Aad(b"aad"))?;'
 refused 'unused `Tag` that must be used' 'key.sealer(&[0; 12], Aad(b"aad"))?.finish();'
 refused 'unused `Sealer` that must be used' 'key.sealer(&[0; 12], Aad(b"aad"))?;'
-refused 'that must be used' 'key.sealer(&[0; 12], Aad(b"aad"))?.save();'
 refused 'unused `PaddedText` that must be used' 'aeadkit::unwrap_padded(WrappingKey(&[0; 16]), &[0; 40], &mut text)?;'
 refused E0308 'let _ = key.seal_in_place(&[0; 12], b"aad", &mut text)?;'
 refused E0308 'key.seal_to_vec(&[0; 12], Aad(b"aad"), &text)?;'
@@ -116,7 +115,7 @@ done
 refused E0308 'let _ = key.seal_in_place(&[0; 13], &mut text, Aad(b"aad"))?;'
 refused E0308 'let _ = key.seal_in_place(&[0; 12][..], &mut text, Aad(b"aad"))?;'
 refused E0599 'let sealer = key.sealer(&[0; 12], Aad(b"aad"))?; let _ = sealer.clone().finish();'
-refused E0382 'let sealer = key.sealer(&[0; 12], Aad(b"aad"))?; let _ = sealer.save(); let _ = sealer.finish();'
+refused E0382 'let sealer = key.sealer(&[0; 12], Aad(b"aad"))?; let _ = sealer.finish(); let _ = sealer.finish();'
 refused E0061 'key.seal(&[0; 12], &mut text, b"aad")?;'
 refused E0061 'key.open(&[0; 12], &mut text, b"aad")?;'
 refused E0061 'aeadkit::wrap(&[0; 16], &mut text)?;'

@@ -33,8 +33,6 @@ pub enum Fault {
     UnknownSuite,
     /// The output is not as long as the result. Each call with an output says how long that is.
     OutputLength,
-    /// The bytes are not a saved state of this type, suite, key and nonce, in the layout of the library that is linked.
-    NotSaved,
 }
 
 impl fmt::Display for Fault {
@@ -53,7 +51,6 @@ impl fmt::Display for Fault {
             Fault::SourceChanged => "the second pass differs from the first",
             Fault::UnknownSuite => "there is no such suite, or the call does not take it",
             Fault::OutputLength => "the output is not as long as the result",
-            Fault::NotSaved => "not a saved state of this type, suite, key and nonce",
         })
     }
 }

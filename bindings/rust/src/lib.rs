@@ -24,8 +24,7 @@
 //! | [`wrap_to_vec`], [`unwrap_to_vec`], [`wrap_padded_to_vec`], [`unwrap_padded_to_vec`] | is a vector | |
 //! | [`wrap`], [`unwrap`], [`wrap_padded`], [`unwrap_padded`] | stands in a slice of the caller | |
 //!
-//! [`Key`] has the first four rows as methods, and makes its key schedule once. A text in pieces can be saved and continued after
-//! a restart: see [`Sealer::save`].
+//! [`Key`] has the first four rows as methods, and makes its key schedule once.
 //!
 //! All calls take their arguments in one order: suite, key, nonce, the bytes that are sealed or opened, the bytes that the result
 //! goes to, a tag that is given, and the associated data last, as an [`Aad`]. Associated data is authenticated and not encrypted,
@@ -62,7 +61,6 @@ mod key;
 mod opener;
 #[allow(unsafe_code)]
 mod raw;
-mod saved;
 mod sealer;
 mod siv;
 mod suite;
@@ -75,7 +73,6 @@ pub use fault::Fault;
 use fault::outcome;
 pub use key::Key;
 pub use opener::{CheckedOpener, Opener};
-pub use saved::{SAVED_PASSES_BYTES, SAVED_SEALER_BYTES};
 pub use sealer::Sealer;
 pub use siv::{SivSealer, SivWriter};
 pub use suite::Suite;

@@ -9,7 +9,7 @@ use core::fmt;
 /// ciphertext, then [`Opener::begin_second`]. The state is wiped when it is dropped.
 #[must_use = "an opening that is not checked gives no text"]
 pub struct Opener {
-    pub(crate) state: raw::Opener,
+    state: raw::Opener,
 }
 
 /// The second pass, after the first was authenticated, which decrypts: [`CheckedOpener::update`] for each piece of the
@@ -17,7 +17,7 @@ pub struct Opener {
 /// is dropped.
 #[must_use = "the text comes from the second pass, which `finish` ends"]
 pub struct CheckedOpener {
-    pub(crate) state: raw::Opener,
+    state: raw::Opener,
 }
 
 impl Opener {

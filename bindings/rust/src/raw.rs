@@ -5,8 +5,6 @@
 //! writes what the call writes, and that structs have the library's size and stand at multiples of 8. Slices, arrays and the
 //! structs of this module, by reference, are all of that.
 
-pub mod saved;
-
 /// An archive of another major version has calls of the same names with other arguments. It lacks this name, and is not linked.
 #[used]
 static OF_THIS_MAJOR_VERSION: &u8 = &AEADKIT_3;

@@ -12,7 +12,7 @@ use core::fmt;
 /// not depend on how the text is split. The state is wiped when it is dropped.
 #[must_use = "a sealing that is not finished has no tag"]
 pub struct Sealer {
-    pub(crate) state: raw::Sealer,
+    state: raw::Sealer,
 }
 
 impl Sealer {

@@ -9,7 +9,7 @@ use core::fmt;
 /// piece of the text, then [`SivSealer::begin_second`]. The state is wiped when it is dropped.
 #[must_use = "a sealing that is not finished has no tag"]
 pub struct SivSealer {
-    pub(crate) state: raw::Siv,
+    state: raw::Siv,
 }
 
 /// The second reading, which encrypts the text: [`SivWriter::update`] for each piece again, then [`SivWriter::finish`].
@@ -18,7 +18,7 @@ pub struct SivSealer {
 /// may be split in different ways. The state is wiped when it is dropped.
 #[must_use = "the ciphertext comes from the second reading, which `finish` ends"]
 pub struct SivWriter {
-    pub(crate) state: raw::Siv,
+    state: raw::Siv,
 }
 
 impl SivSealer {
