@@ -44,8 +44,8 @@
 //! stack.
 //!
 //! The crate is `no_std`. Without its default feature `alloc` it has no calls that return vectors. The library calls
-//! `memcpy`, `memmove`, `memset` and `bcmp`, which the C library has. It does not serve a kernel: `x86_64-unknown-none` and other
-//! targets without SSE2 are refused. If the program is compiled for processors with AVX2, as with
+//! `memcpy`, `memmove`, `memset` and `bcmp`, which the C library has. It is for x86-64 Linux, and the build for any other target,
+//! such as `x86_64-unknown-none` of a kernel, fails. If the program is compiled for processors with AVX2, as with
 //! `RUSTFLAGS="-C target-cpu=x86-64-v3"`, the library's build for these is linked.
 
 #![no_std]
