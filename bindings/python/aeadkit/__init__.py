@@ -27,15 +27,10 @@ Another process of a pool gets a copy too, and ravel, reshape and ascontiguousar
 other thread or process may read or write the buffer during such a call: an opening could otherwise give a text that was never
 sealed. The tag of 16 bytes is separate; the ciphertext and then the tag are the sealing that open takes.
 
-If an exception from a signal handler, such as KeyboardInterrupt, ends the call, the buffer of seal_in_place is as before, and
-that of open_in_place may hold the text already. A sealing or an opening in pieces is closed if such an exception ends its call
-on a piece, since nobody knows whether the piece was taken. A with statement over it raises NotFinished, unless the exception
-leaves the statement too or close was called. From Python 3.11 on this also holds if two signals come during a call, whose
-handlers raise an exception each; of three nothing is promised. Python before 3.11 may also raise it between the end of a call
-and the next step of the caller, and a task that is cancelled while it waits for a call in another thread does not get the
-result either. The result is lost then, though the call was done: close the object, and begin anew under another nonce. Neither
-a cancellation nor a timeout stops the call in the other thread: until it returns it may still change the buffer of a call in
-place, which must not be used for anything else meanwhile.
+After an exception that is not of this module, such as KeyboardInterrupt, nobody knows whether the call was done: throw away the
+object, or the buffer of a call in place, and begin anew under another nonce. The same holds if a task is cancelled while it waits
+for a call in another thread. Neither a cancellation nor a timeout stops the call in the other thread: until it returns it may still
+change the buffer of a call in place, which must not be used for anything else meanwhile.
 
 A nonce is 12 bytes long. It is not secret, but it must never be used for two sealings under one key, and nothing here notices a
 repeat. Two sealings with one nonce give away the XOR of their texts, and enough to forge messages under the key; under
@@ -362,34 +357,6 @@ def _tag(call: Callable[..., int], *arguments: Any) -> bytes:
     return tag.raw
 
 
-def _sealed_in_place(text: Buffer, seal_call: Callable[..., int], open_call: Callable[..., int],
-                     arguments: Tuple[Any, ...]) -> bytes:
-    """Seals the bytes of a buffer where they stand, and returns the tag."""
-    tag = _Tag()
-    room = _writable(text)
-    try:
-        status = _in_place(room, seal_call, arguments, tag)
-        if not status:
-            # From Python 3.11 on no signal handler runs after this: a with statement would have an end in which one could, so the
-            # room is let go of with this frame.
-            return tag.raw
-    except BaseException:
-        # Nobody gets the tag. If there is one, the buffer is sealed, and sealed once more it could be the text again.
-        try:
-            if any(tag.raw):
-                _in_place(room, open_call, arguments, tag)
-        except BaseException:
-            # The handler of another signal came in between. If the buffer is open already, this is refused, and changes nothing.
-            _in_place(room, open_call, arguments, tag)
-        finally:
-            room.release()
-            del arguments
-        raise
-    room.release()
-    del arguments  # an exception does not keep a key
-    _refuse(status)
-
-
 # ---- Whole messages
 
 
@@ -432,8 +399,7 @@ def seal_in_place(suite: int, key: Buffer, nonce: Buffer, text: Buffer, *, aad: 
 
     Raises UnknownSuite, KeyLength, NonceLength, AadTooLong or TextTooLong; or TypeError if the buffer is not writable.
     """
-    return _sealed_in_place(text, _library.aeadkit_seal_in_place, _library.aeadkit_open_in_place,
-                            (_suite_of(suite), *_slices(key, nonce, _aad_of(aad))))
+    return _tag(_in_place, text, _library.aeadkit_seal_in_place, (_suite_of(suite), *_slices(key, nonce, _aad_of(aad))))
 
 
 def open_in_place(suite: int, key: Buffer, nonce: Buffer, ciphertext: Buffer, tag: Buffer, *,
@@ -512,8 +478,6 @@ class _HasStruct:
     """The base of Key, Sealer, Opener and SivSealer: a struct of the library, once __init__ has begun it."""
 
     _struct: Optional[_Struct] = None
-    # whether an exception that ended a call has closed it, and nobody has since
-    _given_up = False
 
     @classmethod
     def _of(cls: Type[_Self], struct: _Struct) -> _Self:
@@ -537,7 +501,7 @@ class _HasStruct:
         """Wipes the memory that holds the key, after the last call in another thread that is using it. Each later call raises
         NotBegun. A with statement does this at its end, and so does the deletion of the object. A sealing or an opening in pieces
         is given up by this; a with statement that ends without an exception, and before finish, raises NotFinished."""
-        self._struct, self._given_up = None, False
+        self._struct = None
 
     def __enter__(self: _Self) -> _Self:
         return self
@@ -556,9 +520,6 @@ class _InPieces(_HasStruct):
 
     It has no copies, and a process that was forked from its own cannot use it: two sealings that go on from one struct would
     seal two texts under one nonce.
-
-    If an exception from a signal handler ends a call on a piece, nobody knows whether the piece was taken. So the object is
-    closed: with a piece too many, or without what the call made of one, a sealing could not be opened.
     """
 
     _no_copies = ""
@@ -581,47 +542,18 @@ class _InPieces(_HasStruct):
 
     def _take(self, function: Callable[..., int], piece: Buffer) -> None:
         """A call that only reads the piece."""
-        slices, status = _slices(piece), 0
-        try:
-            status = self._call(function, *slices)
-            _check(status)
-        except BaseException:
-            try:
-                self._end(status)
-            except BaseException:  # of the handler of another signal
-                self._end(status)
-            raise
+        _check(self._call(function, *_slices(piece)))
 
     def _change(self, function: Callable[..., int], piece: Buffer) -> bytes:
         """What a call makes of a copy of the piece."""
         copy = _copy_of(piece)
-        room, status = copy.getbuffer(), 0
-        try:
-            with room:
-                status = _in_place(room, self._call, (function,))
-            _check(status)
-            return copy.getvalue()
-        except BaseException:
-            try:
-                self._end(status)
-            except BaseException:  # of the handler of another signal
-                self._end(status)
-            raise
+        with copy.getbuffer() as room:
+            _check(_in_place(room, self._call, (function,)))
+        return copy.getvalue()
 
     def _change_in_place(self, function: Callable[..., int], piece: Buffer) -> None:
         """A call that changes the piece where it stands."""
-        room, status = _writable(piece), 0
-        try:
-            status = _in_place(room, self._call, (function,))
-            _check(status)
-            room.release()
-        except BaseException:
-            try:
-                self._end(status)
-            except BaseException:  # of the handler of another signal
-                self._end(status)
-            room.release()
-            raise
+        _check(_in_place(piece, self._call, (function,)))
 
     def _is_unfinished(self) -> bool:
         """Whether finish, save or close has to follow in this process."""
@@ -629,7 +561,7 @@ class _InPieces(_HasStruct):
         return self._unfinished and struct is not None and not struct.is_forked()
 
     def __exit__(self, kind: Optional[Type[BaseException]] = None, *exception: object) -> None:
-        unfinished = self._is_unfinished() or self._given_up and self._struct is None
+        unfinished = self._is_unfinished()
         self.close()
         if unfinished and kind is None:
             raise NotFinished()
@@ -645,17 +577,6 @@ class _InPieces(_HasStruct):
     def __del__(self, _warn: Callable[..., None] = warnings.warn) -> None:
         if self._is_unfinished():
             self._warn_of_giving_up(_warn)
-
-    def _end(self, status: int) -> None:
-        """Closes the object, also for the calls of other threads, unless the library refused the call with this status. The
-        exception does not say so: a signal handler may raise any, a Refused of another call too."""
-        struct = self._struct
-        if status or struct is None or struct.is_forked():
-            return
-        self._given_up = True
-        self._struct = None
-        with struct.lock:
-            self._kind.wipe(struct)
 
     def __reduce__(self) -> NoReturn:
         raise TypeError(f"{type(self).__name__} objects cannot be copied or pickled: {self._no_copies}")
@@ -726,8 +647,7 @@ class Key(_HasStruct):
         Raises NonceLength, AadTooLong or TextTooLong; NotBegun if __init__ raised an exception, and after close; or TypeError
         if the buffer is not writable.
         """
-        return _sealed_in_place(text, _library.aeadkit_seal_in_place_with, _library.aeadkit_open_in_place_with,
-                                (self._get_struct(), *_slices(nonce, _aad_of(aad))))
+        return _tag(_in_place, text, _library.aeadkit_seal_in_place_with, (self._get_struct(), *_slices(nonce, _aad_of(aad))))
 
     def open_in_place(self, nonce: Buffer, ciphertext: Buffer, tag: Buffer, *, aad: Optional[Buffer] = None) -> None:
         """Opens a sealing whose ciphertext is in a writable buffer, such as a bytearray: the ciphertext becomes its text.
@@ -814,8 +734,7 @@ class _Saves(_InPieces):
         Keep the bytes as secret as the key, since with them messages can be forged under it, and where nobody else can write:
         nothing authenticates them. The key and the nonce are not among them, nor is the place that was reached in the text.
 
-        Raises NotBegun after finish; or NotImplementedError if the library that was loaded cannot save. If an exception from a
-        signal handler ends the call, the object is as before, or closed.
+        Raises NotBegun after finish; or NotImplementedError if the library that was loaded cannot save.
         """
         saved = self._saved.memory()
 
@@ -833,11 +752,6 @@ class _Saves(_InPieces):
                 return status
             except NotImplementedError:
                 self._struct = held
-                raise
-            except BaseException:
-                self._given_up = True
-                self._struct = None
-                self._kind.wipe(struct)
                 raise
 
         _check(self._call(save_and_wipe))

@@ -324,17 +324,6 @@ class Saved(unittest.TestCase):
                     self.assertGreater(number, 10)
                     break
 
-    def test_an_exception_that_ends_save(self):
-        """The object is closed, and a with statement tells of it if the exception goes no further."""
-
-        def interrupted(*arguments):
-            raise KeyboardInterrupt()
-
-        saved = Sealer._saved._replace(save=interrupted)
-        with unittest.mock.patch.object(Sealer, "_saved", saved), self.assertRaises(aeadkit.NotFinished):
-            with Sealer(1, KEY, NONCE) as sealer:
-                self.assertRaises(KeyboardInterrupt, sealer.save)
-
     def test_a_refused_save(self):
         """The object is as before."""
         sealer = Sealer(1, KEY, NONCE)
