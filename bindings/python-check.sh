@@ -28,8 +28,7 @@ esac
 run "$python" "$here/examples/keys.py"
 # the types of the package, as callers see them, by a checker of any age
 if [ -z "${PYTHONPATH:-}" ] && command -v mypy > /dev/null; then
-    run mypy --strict --cache-dir=types --python-executable "$python" "$here/examples/keys.py" "$here/examples/segments.py" \
-        "$here/examples/resume.py"
+    run mypy --strict --cache-dir=types --python-executable "$python" "$here/examples/keys.py" "$here/examples/segments.py"
 fi
 
 segments="$here/examples/segments.py"
@@ -52,16 +51,3 @@ refused() {
 head -c $((40 + 1048576 + 16)) sealed | refused label
 cat sealed sealed | refused label
 refused other < sealed
-
-# a sealing that is killed, and goes on when it is begun again
-head -c 9000000 /dev/urandom > text
-for seconds in 0.1 0.15 0.2 0.25 0.3; do
-    timeout -s KILL "$seconds" "$python" "$here/examples/resume.py" key text resumed > log 2>&1 || continue
-done
-run "$python" "$here/examples/resume.py" key text resumed
-test ! -e resumed.step
-"$python" - <<'END' | cmp - text
-import sys, aeadkit
-with open("key", "rb") as key, open("resumed", "rb") as file:
-    sys.stdout.buffer.write(aeadkit.open(aeadkit.Suite.AES_256_GCM, key.read(), file.read(12), file.read()))
-END

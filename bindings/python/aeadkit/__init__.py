@@ -40,7 +40,7 @@ lock. But a fork copies a counter, so that both processes would use the same non
 of the nonce. Random nonces serve for at most 2^32 sealings under a key (SP 800-38D, 8.3).
 
 A call that is refused raises a subclass of Refused. Faults of a suite and of lengths are ValueErrors too. A with statement over
-a sealing or an opening in pieces raises NotFinished if it ends before finish, save or close, and without another exception. If
+a sealing or an opening in pieces raises NotFinished if it ends before finish or close, and without another exception. If
 such an object is deleted before that, without a with statement, there is a ResourceWarning, which python -X dev shows; and also
 if a generator is closed before that, within the with statement: what it yielded is a ciphertext without its tag then, or a text
 that is not to be used.
@@ -82,7 +82,7 @@ else:
 # There is no open in this list, so that `from aeadkit import *` leaves Python's own.
 __all__ = ["Suite", "Key", "Sealer", "Opener", "SivSealer", "seal", "seal_in_place", "open_in_place", "wrap", "unwrap",
            "wrap_padded", "unwrap_padded", "Refused", "KeyLength", "NonceLength", "TextTooLong", "AadTooLong", "TooShort",
-           "TagLength", "TagMismatch", "WrapLength", "WrapIntegrity", "SourceChanged", "UnknownSuite", "NotBegun", "NotSaved",
+           "TagLength", "TagMismatch", "WrapLength", "WrapIntegrity", "SourceChanged", "UnknownSuite", "NotBegun",
            "NotFinished", "library_version"]
 
 __version__ = "0.0.0"
@@ -174,10 +174,10 @@ class NotBegun(Refused):
 
 
 class NotFinished(Refused):
-    """A with statement ended without an exception, and its object was neither finished nor saved nor closed: a sealing has no
+    """A with statement ended without an exception, and its object was neither finished nor closed: a sealing has no
     tag, a ciphertext was not authenticated, or a text of the second pass is not to be used."""
 
-    message = "the with statement ended before finish, save or close"
+    message = "the with statement ended before finish or close"
 
 
 _FAULTS: Dict[int, Type[Refused]] = {
@@ -524,9 +524,10 @@ class _InPieces(_HasStruct):
 
     _no_copies = ""
     _kind: _library.Kind
+    _init: Callable[..., int]
     # the functions that end it, or a pass after which nothing has to follow
     _ends: Tuple[Callable[..., int], ...] = ()
-    # whether a call was done since it was begun or such an end, or since it was resumed
+    # whether a call was done since it was begun or such an end
     _unfinished = False
 
     def _call(self, function: Callable[..., int], *arguments: Any) -> int:
@@ -556,7 +557,7 @@ class _InPieces(_HasStruct):
         _check(_in_place(piece, self._call, (function,)))
 
     def _is_unfinished(self) -> bool:
-        """Whether finish, save or close has to follow in this process."""
+        """Whether finish or close has to follow in this process."""
         struct = self._struct
         return self._unfinished and struct is not None and not struct.is_forked()
 
@@ -572,7 +573,7 @@ class _InPieces(_HasStruct):
     def _warn_of_giving_up(self, warn: Callable[..., None]) -> None:
         # As of a file that was not closed: python -X dev and test runners show it. It names the caller's line, since of several
         # warnings of one line only the first is shown.
-        warn(f"a {type(self).__name__} was given up before finish, save or close", ResourceWarning, stacklevel=3, source=self)
+        warn(f"a {type(self).__name__} was given up before finish or close", ResourceWarning, stacklevel=3, source=self)
 
     def __del__(self, _warn: Callable[..., None] = warnings.warn) -> None:
         if self._is_unfinished():
@@ -706,85 +707,10 @@ class Key(_HasStruct):
                                     *_slices(nonce, _aad_of(aad))))
 
 
-# ---- Saved states
-
-
-class NotSaved(Refused, ValueError):
-    """The bytes are not what save returned, for this class, suite, key and nonce."""
-
-    message = "not a saved state of this class, suite, key and nonce"
-
-
-_State = TypeVar("_State", bound="_Saves")
-
-
-class _Saves(_InPieces):
-    """A state in pieces that can be saved as bytes, and resumed from them."""
-
-    _saved: _library.Saved
-    _init: Callable[..., int]
-
-    def save(self) -> bytes:
-        """Returns the state as bytes, and closes this object: resume goes on from the bytes, after a restart too.
-
-        NEVER GO ON TWICE FROM ONE SAVED STATE OF A SEALING: two texts would be sealed under one nonce, which gives away their
-        XOR, and enough to forge messages. Replace the bytes, where they are stored, before the ciphertext that follows them
-        leaves your hands.
-
-        Keep the bytes as secret as the key, since with them messages can be forged under it, and where nobody else can write:
-        nothing authenticates them. The key and the nonce are not among them, nor is the place that was reached in the text.
-
-        Raises NotBegun after finish; or NotImplementedError if the library that was loaded cannot save.
-        """
-        saved = self._saved.memory()
-
-        def save_and_wipe(struct: _Struct) -> int:
-            # In one call, so that no other thread goes on beside what is saved. The object lets go of the struct first, so that
-            # nothing that runs in this thread meanwhile does: a signal handler, or the __del__ of another object.
-            held = self._struct
-            try:
-                self._struct = None
-                status = self._saved.save(struct, saved)
-                if status:
-                    self._struct = held
-                else:
-                    self._kind.wipe(struct)
-                return status
-            except NotImplementedError:
-                self._struct = held
-                raise
-
-        _check(self._call(save_and_wipe))
-        return bytes(saved)
-
-    @classmethod
-    def resume(cls: Type[_State], suite: int, key: Buffer, nonce: Buffer, saved: Buffer) -> _State:
-        """Returns the state that was saved, which goes on where it was, in the pass or the reading that it was in.
-
-        NEVER RESUME ONE SAVED STATE OF A SEALING TWICE: two texts would be sealed under one nonce, which gives away their XOR,
-        and enough to forge messages. The suite, the key and the nonce are those that it was begun with.
-
-        Raises NotSaved if the bytes are not what save returned, for this class, suite, key and nonce: a sealing that went on
-        under another key or nonce could not be opened. Raises UnknownSuite, KeyLength or NonceLength; or NotImplementedError
-        if the library that was loaded cannot resume.
-        """
-        member, slices, data = _suite_of(suite), _slices(key, nonce), _bytes_of(saved)
-        # the first number is the mark, whose lowest byte is the suite
-        if len(data) != ctypes.sizeof(cls._saved.memory) or data[0] != member:
-            raise NotSaved()
-        try:
-            struct = _begin(cls._kind, member, cls._saved.resume, *slices, cls._saved.memory.from_buffer_copy(data))
-        except (NotBegun, TagMismatch):
-            raise NotSaved() from None
-        made = cls._of(struct)
-        made._unfinished = True
-        return made
-
-
 # ---- Messages in pieces
 
 
-class Sealer(_Saves):
+class Sealer(_InPieces):
     """A sealing in pieces under ChaCha20-Poly1305 or AES-GCM: update with each piece of the text, then finish.
 
     The ciphertexts of the pieces and then the tag are the sealing of the whole text, however it is cut into pieces. Calls from
@@ -801,7 +727,6 @@ class Sealer(_Saves):
 
     _no_copies = "two copies would seal two texts under one nonce"
     _kind = _library.SEALER
-    _saved = _library.SAVED_SEALER
     _init = staticmethod(_library.aeadkit_sealer_init)
     _ends = (_library.aeadkit_sealer_finish,)
 
@@ -831,7 +756,7 @@ class Sealer(_Saves):
         return _tag(self._call, _library.aeadkit_sealer_finish)
 
 
-class Opener(_Saves):
+class Opener(_InPieces):
     """An opening in pieces, under every suite, in two passes over the ciphertext: check each piece, then begin_second; then
     update with each piece again, then finish.
 
@@ -849,7 +774,6 @@ class Opener(_Saves):
 
     _no_copies = "it holds the key of the message; begin another Opener"
     _kind = _library.OPENER
-    _saved = _library.SAVED_OPENER
     _init = staticmethod(_library.aeadkit_opener_init)
     _ends = (_library.aeadkit_opener_begin_second, _library.aeadkit_opener_finish)
 
@@ -903,7 +827,7 @@ class Opener(_Saves):
         _check(self._call(_library.aeadkit_opener_finish))
 
 
-class SivSealer(_Saves):
+class SivSealer(_InPieces):
     """A sealing in pieces under AES-GCM-SIV, whose tag is computed first, in two readings of the text: absorb each piece, then
     begin_second, which returns the tag; then update with each piece again, then finish.
 
@@ -920,7 +844,6 @@ class SivSealer(_Saves):
 
     _no_copies = "two copies would seal two texts under one nonce"
     _kind = _library.SIV
-    _saved = _library.SAVED_SIV
     _init = staticmethod(_library.aeadkit_siv_init)
     _ends = (_library.aeadkit_siv_finish,)
 

@@ -130,34 +130,3 @@ aeadkit_text_limit = _declare("aeadkit_text_limit", _suite, result=ctypes.c_uint
 aeadkit_aad_limit = _declare("aeadkit_aad_limit", _suite, result=ctypes.c_uint64)
 aeadkit_suite_named = _declare("aeadkit_suite_named", *_input)
 aeadkit_status_text = _declare("aeadkit_status_text", ctypes.c_uint32, *_output, result=ctypes.c_size_t)
-
-# ---- Saved states
-
-
-class Saved(NamedTuple):
-    """How the states of a kind are saved: the memory of the saved struct, and the functions."""
-
-    memory: "Type[ctypes.Array[ctypes.c_uint64]]"
-    save: Callable[..., int]
-    resume: Callable[..., int]
-
-
-def _declare_if_there(name: str, *arguments: Any) -> Callable[..., int]:
-    """A function that a library may lack. If it does, the call is a NotImplementedError."""
-    if hasattr(_library, name):
-        return _declare(name, *arguments)
-
-    def missing(*_: Any) -> int:
-        raise NotImplementedError(f"{_file} cannot save states: it has no function {name}")
-
-    return missing
-
-
-def _saved(name: str, size: int) -> Saved:
-    return Saved(ctypes.c_uint64 * (size // 8), _declare_if_there(f"aeadkit_{name}_save", _struct, _struct),
-                 _declare_if_there(f"aeadkit_{name}_resume", _struct, *_input, *_input, _struct))
-
-
-SAVED_SEALER = _saved("sealer", 96)
-SAVED_OPENER = _saved("opener", 144)
-SAVED_SIV = _saved("siv", 144)

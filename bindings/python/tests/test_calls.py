@@ -23,7 +23,7 @@ TEXT = b"a text of more than one block of 16 bytes"
 SEALED = aeadkit.seal(Suite.AES_256_GCM, KEY, NONCE, TEXT, aad=b"aad")
 SIV_SEALED = aeadkit.seal(Suite.AES_256_GCM_SIV, KEY, NONCE, TEXT, aad=b"aad")
 LENGTHS = (aeadkit.KeyLength, aeadkit.NonceLength, aeadkit.TextTooLong, aeadkit.AadTooLong, aeadkit.TooShort,
-           aeadkit.TagLength, aeadkit.WrapLength, aeadkit.NotSaved)
+           aeadkit.TagLength, aeadkit.WrapLength)
 OTHERS = (aeadkit.TagMismatch, aeadkit.WrapIntegrity, aeadkit.SourceChanged, aeadkit.NotBegun, aeadkit.NotFinished)
 
 
@@ -98,7 +98,7 @@ class Arguments(unittest.TestCase):
         for suite in (True, False, other.AES_256_GCM, enum.IntFlag("Flag", "ONE").ONE, 1.0, 4 + 0j, "4", numbers.Number()):
             for call in (lambda: aeadkit.seal(suite, KEY, NONCE, TEXT), lambda: Key(suite, KEY), lambda: Sealer(suite, KEY, NONCE),
                          lambda: aeadkit.open(suite, KEY, NONCE, SEALED), lambda: Opener(suite, KEY, NONCE, bytes(16)),
-                         lambda: SivSealer(suite, KEY, NONCE), lambda: Sealer.resume(suite, KEY, NONCE, bytes(96))):
+                         lambda: SivSealer(suite, KEY, NONCE)):
                 self.assertRaisesRegex(TypeError, "a member of Suite is required", call)
 
 
@@ -341,7 +341,7 @@ class Order(unittest.TestCase):
             calls = [("seal", NONCE, TEXT), ("open", NONCE, SEALED), ("sealer", NONCE), ("update", TEXT), ("check", TEXT),
                      ("absorb", TEXT), ("begin_second",), ("finish",), ("seal_in_place", NONCE, bytearray(5)),
                      ("open_in_place", NONCE, bytearray(5), bytes(16)), ("opener", NONCE, bytes(16)), ("siv_sealer", NONCE),
-                     ("update_in_place", bytearray(5)), ("save",)]
+                     ("update_in_place", bytearray(5))]
             for name, *arguments in calls:
                 if hasattr(state, name):
                     self.assertRaisesRegex(aeadkit.NotBegun, "__init__", getattr(state, name), *arguments)
@@ -408,7 +408,7 @@ class Closing(unittest.TestCase):
             state.close()
             state.close()
             calls = [("seal", NONCE, TEXT), ("open", NONCE, SEALED), ("sealer", NONCE), ("update", TEXT), ("check", TEXT),
-                     ("absorb", TEXT), ("begin_second",), ("finish",), ("seal_in_place", NONCE, bytearray(5)), ("save",)]
+                     ("absorb", TEXT), ("begin_second",), ("finish",), ("seal_in_place", NONCE, bytearray(5))]
             for name, *arguments in calls:
                 if hasattr(state, name):
                     self.assertRaisesRegex(aeadkit.NotBegun, "closed", getattr(state, name), *arguments)
@@ -492,25 +492,17 @@ class Closing(unittest.TestCase):
                 with state:
                     use(state)
             self.assertRaisesRegex(aeadkit.NotBegun, "closed", state.finish)
-            # another exception is not replaced; close, save and a new __init__ end the sealing or opening on purpose
+            # another exception is not replaced; close and a new __init__ end the sealing or opening on purpose
             with self.assertRaises(KeyError):
                 with begin[kind]() as state:
                     use(state)
                     raise KeyError()
-            for end in ("close", "save"):
-                with begin[kind]() as state:
-                    use(state)
-                    getattr(state, end)()
+            with begin[kind]() as state:
+                use(state)
+                state.close()
             with begin[kind]() as state:
                 use(state)
                 state.__init__(state.suite, KEY, NONCE, *((tag,) if kind == "opener" else ()))
-            saved = begin[kind]()
-            use(saved)
-            # a resumed state has to be finished, even if no call follows
-            with self.assertRaises(aeadkit.NotFinished):
-                with type(saved).resume(saved.suite, KEY, NONCE, saved.save()) as state:
-                    pass
-            self.assertRaisesRegex(aeadkit.NotBegun, "closed", state.finish)
         for kind, use in unfinished:
             with warnings.catch_warnings(record=True) as caught:
                 warnings.simplefilter("always")
@@ -518,11 +510,10 @@ class Closing(unittest.TestCase):
                 use(state)
                 name = type(state).__name__
                 del state
-                for end in ("close", "save"):
-                    state = begin[kind]()
-                    use(state)
-                    getattr(state, end)()
-                    del state
+                state = begin[kind]()
+                use(state)
+                state.close()
+                del state
                 state = begin[kind]()
                 use(state)
                 self.assertRaises(aeadkit.NotFinished, state.__exit__)
@@ -541,7 +532,7 @@ class Closing(unittest.TestCase):
                     end(made)
                     del made
             self.assertEqual([(one.category, str(one.message), one.filename) for one in caught],
-                             [(ResourceWarning, f"a {name} was given up before finish, save or close", __file__)] * 3)
+                             [(ResourceWarning, f"a {name} was given up before finish or close", __file__)] * 3)
         for kind, use in [(kind, nothing) for kind in begin] + [("opener", checked), ("opener", mismatch), ("opener", changed)]:
             with begin[kind]() as state:
                 use(state)
@@ -578,13 +569,8 @@ class Closing(unittest.TestCase):
         def finish(sealer):
             return sealer.update(TEXT) + sealer.finish()
 
-        def save(sealer):
-            return Sealer.resume(Suite.AES_256_GCM, KEY, NONCE, sealer.save()).finish()
-
-        tag = Sealer(Suite.AES_256_GCM, KEY, NONCE, aad=b"aad").finish()
         for begin, use, expected in [(lambda: Key(Suite.AES_256_GCM, KEY), seal, SEALED),
-                                     (lambda: Sealer(Suite.AES_256_GCM, KEY, NONCE, aad=b"aad"), finish, SEALED),
-                                     (lambda: Sealer(Suite.AES_256_GCM, KEY, NONCE, aad=b"aad"), save, tag)]:
+                                     (lambda: Sealer(Suite.AES_256_GCM, KEY, NONCE, aad=b"aad"), finish, SEALED)]:
             # one of the two was there before the state, and one comes after it
             first, state, second = Last(), begin(), Last()
             state.circle = [first, second, state]

@@ -141,7 +141,7 @@ class Forks(unittest.TestCase):
 
             def refused():
                 try:
-                    state.save()
+                    state.finish()
                 except aeadkit.NotBegun as fault:
                     return "forked" in str(fault)
                 return False
@@ -152,7 +152,7 @@ class Forks(unittest.TestCase):
         for state in states():
             calls = [(name, *arguments) for name, *arguments in
                      (("update", b"piece"), ("check", b"piece"), ("absorb", b"piece"), ("update_in_place", bytearray(5)),
-                      ("save",), ("finish",)) if hasattr(state, name)]
+                      ("finish",)) if hasattr(state, name)]
 
             def refused():
                 for name, *arguments in calls:

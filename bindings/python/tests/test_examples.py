@@ -1,4 +1,4 @@
-"""The examples over unusual streams: pipes that do not wait, writes that take a part, and files that change."""
+"""The examples over unusual streams: pipes that do not wait, and writes that take a part."""
 
 import importlib.util
 import io
@@ -11,7 +11,6 @@ import subprocess
 import sys
 import tempfile
 import unittest
-import unittest.mock
 from concurrent.futures import ThreadPoolExecutor
 
 import aeadkit
@@ -137,70 +136,6 @@ class Segments(unittest.TestCase):
                                           env={**os.environ, "LD_PRELOAD": shim})
                 self.assertEqual(made.returncode, 1, function)
                 self.assertIn(b"segments.py: ", made.stderr)
-
-
-class Resume(unittest.TestCase):
-    def test_another_text_after_a_restart(self):
-        """Pieces of two texts would be sealed as one text."""
-        resume, key, text = example("resume"), bytes(range(32)), bytes(range(256)) * 12_000
-        for change in ("none", "contents", "length", "another file", "a file in its place"):
-            with tempfile.TemporaryDirectory() as folder:
-                source, other, target = (os.path.join(folder, name) for name in ("source", "other", "target"))
-                for name in (source, other):
-                    with open(name, "wb") as file:
-                        file.write(text)
-                    os.utime(name, (1, 1))
-                steps, store = [], resume.store
-
-                def stops(path, step):
-                    store(path, step)
-                    steps.append(step)
-                    if len(steps) == 3:
-                        raise KeyboardInterrupt()
-
-                with unittest.mock.patch.object(resume, "store", stops):
-                    self.assertRaises(KeyboardInterrupt, resume.seal_file, key, source, target)
-                if change == "none":
-                    resume.seal_file(key, source, target)
-                    with open(target, "rb") as file:
-                        self.assertTrue(aeadkit.open(resume.SUITE, key, file.read(12), file.read()) == text)
-                    continue
-                if change == "contents":
-                    with open(source, "r+b") as file:
-                        file.write(b"other")
-                elif change == "length":
-                    with open(source, "ab") as file:
-                        file.write(b"more")
-                    os.utime(source, (1, 1))
-                elif change == "a file in its place":
-                    os.replace(other, source)
-                self.assertRaisesRegex(ValueError, "not as it was", resume.seal_file, key,
-                                       other if change == "another file" else source, target)
-                self.assertTrue(os.path.exists(target + ".step"))
-
-    def test_another_text_between_two_pieces(self):
-        """IN may change at any time, and no piece of another text is sealed."""
-        resume, key, text = example("resume"), bytes(range(32)), bytes(range(256)) * 12_000
-        for turn in range(2, 5):
-            with tempfile.TemporaryDirectory() as folder:
-                source, target = os.path.join(folder, "source"), os.path.join(folder, "target")
-                with open(source, "wb") as file:
-                    file.write(text)
-                os.utime(source, (1, 1))
-                real, calls = resume.state_of, itertools.count(1)
-
-                def state_of(file):
-                    found = real(file)
-                    if next(calls) == turn:
-                        with open(source, "wb") as changed:
-                            changed.write(text[::-1])
-                    return found
-
-                with unittest.mock.patch.object(resume, "state_of", state_of):
-                    self.assertRaisesRegex(ValueError, "not as it was", resume.seal_file, key, source, target)
-                with open(target, "rb") as file:
-                    nonce, made = file.read(12), file.read()
-                self.assertTrue(aeadkit.seal(resume.SUITE, key, nonce, text).startswith(made))
 
 
 if __name__ == "__main__":

@@ -119,19 +119,6 @@ class Library(unittest.TestCase):
         self.assertEqual(made.stdout, f"<class 'aeadkit.Refused'> {chr(0) * 17!r}\n", made.stderr)
         self.assertEqual(made.stderr, "")
 
-    @unittest.skipUnless(shutil.which("cc"), "no cc")
-    def test_a_library_without_saved_states(self):
-        self.build(status=0)
-        program = ("import aeadkit\n"
-                   "state = aeadkit.Sealer(1, bytes(32), bytes(12))\n"
-                   "for call in (state.save, lambda: state.resume(1, bytes(32), bytes(12), bytes([1]) + bytes(95))):\n"
-                   "    try: call()\n"
-                   "    except NotImplementedError as fault: print(fault)")
-        made = run(self.file, program)
-        expected = "".join(f"{self.file} cannot save states: it has no function aeadkit_sealer_{name}\n"
-                           for name in ("save", "resume"))
-        self.assertEqual((made.stdout, made.stderr), (expected, ""))
-
 
 if __name__ == "__main__":
     unittest.main()
