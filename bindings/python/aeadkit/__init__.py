@@ -39,11 +39,7 @@ finished. A counter does not repeat if it is stored before it is used, and if th
 lock. But a fork copies a counter, so that both processes would use the same nonces: give each process a key of its own, or a part
 of the nonce. Random nonces serve for at most 2^32 sealings under a key (SP 800-38D, 8.3).
 
-A call that is refused raises a subclass of Refused. Faults of a suite and of lengths are ValueErrors too. A with statement over
-a sealing or an opening in pieces raises NotFinished if it ends before finish or close, and without another exception. If
-such an object is deleted before that, without a with statement, there is a ResourceWarning, which python -X dev shows; and also
-if a generator is closed before that, within the with statement: what it yielded is a ciphertext without its tag then, or a text
-that is not to be used.
+A call that is refused raises a subclass of Refused. Faults of a suite and of lengths are ValueErrors too.
 
 The time that a call takes may depend on secrets: AES, and the hashes of AES-GCM and AES-GCM-SIV, look up tables by secret
 bytes. A Key, a Sealer, an Opener and a SivSealer wipe the memory in which they hold the key when they are closed or deleted; a
@@ -61,7 +57,6 @@ import os
 import re
 import sys
 import threading
-import warnings
 from typing import Any, Callable, Dict, List, NoReturn, Optional, Tuple, Type, TypeVar, Union
 
 from . import _library
@@ -82,8 +77,7 @@ else:
 # There is no open in this list, so that `from aeadkit import *` leaves Python's own.
 __all__ = ["Suite", "Key", "Sealer", "Opener", "SivSealer", "seal", "seal_in_place", "open_in_place", "wrap", "unwrap",
            "wrap_padded", "unwrap_padded", "Refused", "KeyLength", "NonceLength", "TextTooLong", "AadTooLong", "TooShort",
-           "TagLength", "TagMismatch", "WrapLength", "WrapIntegrity", "SourceChanged", "UnknownSuite", "NotBegun",
-           "NotFinished", "library_version"]
+           "TagLength", "TagMismatch", "WrapLength", "WrapIntegrity", "SourceChanged", "UnknownSuite", "NotBegun", "library_version"]
 
 __version__ = "0.0.0"
 library_version: str = _library.VERSION
@@ -171,13 +165,6 @@ class NotBegun(Refused):
     """The call comes at the wrong time: the sealing, the opening, the pass or the reading has not begun, or is over."""
 
     message = "not begun, or already finished"
-
-
-class NotFinished(Refused):
-    """A with statement ended without an exception, and its object was neither finished nor closed: a sealing has no
-    tag, a ciphertext was not authenticated, or a text of the second pass is not to be used."""
-
-    message = "the with statement ended before finish or close"
 
 
 _FAULTS: Dict[int, Type[Refused]] = {
@@ -499,8 +486,7 @@ class _HasStruct:
 
     def close(self) -> None:
         """Wipes the memory that holds the key, after the last call in another thread that is using it. Each later call raises
-        NotBegun. A with statement does this at its end, and so does the deletion of the object. A sealing or an opening in pieces
-        is given up by this; a with statement that ends without an exception, and before finish, raises NotFinished."""
+        NotBegun. A with statement does this at its end, and so does the deletion of the object."""
         self._struct = None
 
     def __enter__(self: _Self) -> _Self:
@@ -525,21 +511,13 @@ class _InPieces(_HasStruct):
     _no_copies = ""
     _kind: _library.Kind
     _init: Callable[..., int]
-    # the functions that end it, or a pass after which nothing has to follow
-    _ends: Tuple[Callable[..., int], ...] = ()
-    # whether a call was done since it was begun or such an end
-    _unfinished = False
 
     def _call(self, function: Callable[..., int], *arguments: Any) -> int:
         struct = self._get_struct()
         if struct.is_forked():
             raise NotBegun(f"this {type(self).__name__} belongs to the process that this one was forked from")
         with struct.lock:
-            status = function(struct, *arguments)
-            ends = function in self._ends
-            if not status or (ends and _FAULTS.get(status) is not NotBegun):
-                self._unfinished = not ends
-            return status
+            return function(struct, *arguments)
 
     def _take(self, function: Callable[..., int], piece: Buffer) -> None:
         """A call that only reads the piece."""
@@ -555,29 +533,6 @@ class _InPieces(_HasStruct):
     def _change_in_place(self, function: Callable[..., int], piece: Buffer) -> None:
         """A call that changes the piece where it stands."""
         _check(_in_place(piece, self._call, (function,)))
-
-    def _is_unfinished(self) -> bool:
-        """Whether finish or close has to follow in this process."""
-        struct = self._struct
-        return self._unfinished and struct is not None and not struct.is_forked()
-
-    def __exit__(self, kind: Optional[Type[BaseException]] = None, *exception: object) -> None:
-        unfinished = self._is_unfinished()
-        self.close()
-        if unfinished and kind is None:
-            raise NotFinished()
-        # A generator that is closed within the statement, or deleted, tells nobody of its exception.
-        if unfinished and kind is not None and issubclass(kind, GeneratorExit):
-            self._warn_of_giving_up(warnings.warn)
-
-    def _warn_of_giving_up(self, warn: Callable[..., None]) -> None:
-        # As of a file that was not closed: python -X dev and test runners show it. It names the caller's line, since of several
-        # warnings of one line only the first is shown.
-        warn(f"a {type(self).__name__} was given up before finish or close", ResourceWarning, stacklevel=3, source=self)
-
-    def __del__(self, _warn: Callable[..., None] = warnings.warn) -> None:
-        if self._is_unfinished():
-            self._warn_of_giving_up(_warn)
 
     def __reduce__(self) -> NoReturn:
         raise TypeError(f"{type(self).__name__} objects cannot be copied or pickled: {self._no_copies}")
@@ -728,10 +683,9 @@ class Sealer(_InPieces):
     _no_copies = "two copies would seal two texts under one nonce"
     _kind = _library.SEALER
     _init = staticmethod(_library.aeadkit_sealer_init)
-    _ends = (_library.aeadkit_sealer_finish,)
 
     def __init__(self, suite: int, key: Buffer, nonce: Buffer, *, aad: Optional[Buffer] = None) -> None:
-        self._struct, self._unfinished = None, False
+        self._struct = None
         member = _suite_of(suite)
         self._struct = _begin(self._kind, member, self._init, member, *_slices(key, nonce, _aad_of(aad)))
 
@@ -775,10 +729,9 @@ class Opener(_InPieces):
     _no_copies = "it holds the key of the message; begin another Opener"
     _kind = _library.OPENER
     _init = staticmethod(_library.aeadkit_opener_init)
-    _ends = (_library.aeadkit_opener_begin_second, _library.aeadkit_opener_finish)
 
     def __init__(self, suite: int, key: Buffer, nonce: Buffer, tag: Buffer, *, aad: Optional[Buffer] = None) -> None:
-        self._struct, self._unfinished = None, False
+        self._struct = None
         member = _suite_of(suite)
         self._struct = _begin(self._kind, member, self._init, member, *_slices(key, nonce, _aad_of(aad)),
                               _tag_of(tag))
@@ -845,10 +798,9 @@ class SivSealer(_InPieces):
     _no_copies = "two copies would seal two texts under one nonce"
     _kind = _library.SIV
     _init = staticmethod(_library.aeadkit_siv_init)
-    _ends = (_library.aeadkit_siv_finish,)
 
     def __init__(self, suite: int, key: Buffer, nonce: Buffer, *, aad: Optional[Buffer] = None) -> None:
-        self._struct, self._unfinished = None, False
+        self._struct = None
         member = _suite_of(suite)
         self._struct = _begin(self._kind, member, self._init, member, *_slices(key, nonce, _aad_of(aad)))
 

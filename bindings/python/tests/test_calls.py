@@ -11,7 +11,6 @@ import subprocess
 import sys
 import threading
 import unittest
-import warnings
 from concurrent.futures import ThreadPoolExecutor
 
 import aeadkit
@@ -24,7 +23,7 @@ SEALED = aeadkit.seal(Suite.AES_256_GCM, KEY, NONCE, TEXT, aad=b"aad")
 SIV_SEALED = aeadkit.seal(Suite.AES_256_GCM_SIV, KEY, NONCE, TEXT, aad=b"aad")
 LENGTHS = (aeadkit.KeyLength, aeadkit.NonceLength, aeadkit.TextTooLong, aeadkit.AadTooLong, aeadkit.TooShort,
            aeadkit.TagLength, aeadkit.WrapLength)
-OTHERS = (aeadkit.TagMismatch, aeadkit.WrapIntegrity, aeadkit.SourceChanged, aeadkit.NotBegun, aeadkit.NotFinished)
+OTHERS = (aeadkit.TagMismatch, aeadkit.WrapIntegrity, aeadkit.SourceChanged, aeadkit.NotBegun)
 
 
 class Arguments(unittest.TestCase):
@@ -422,135 +421,6 @@ class Closing(unittest.TestCase):
         opener.check(SEALED[:-16])
         opener.begin_second()
         self.assertEqual(opener.update(SEALED[:-16]), TEXT)
-
-    def test_a_with_statement_that_ends_before_finish(self):
-        """A forgotten call would lose the tag, or leave a ciphertext or a text that nobody authenticated."""
-        body, tag = SEALED[:-16], SEALED[-16:]
-
-        def sealer(state):
-            state.update(TEXT)
-
-        def sealer_in_place(state):
-            state.update_in_place(bytearray(TEXT))
-
-        def check(state):
-            state.check(body)
-
-        def second(state):
-            check(state)
-            state.begin_second()
-            state.update(body)
-
-        def out_of_order(state):
-            check(state)
-            self.assertRaises(aeadkit.NotBegun, state.finish)
-
-        def out_of_second_order(state):
-            second(state)
-            self.assertRaises(aeadkit.NotBegun, state.begin_second)
-
-        def too_long(state):
-            second(state)
-            self.assertRaises(aeadkit.SourceChanged, state.update, b"more")
-
-        def absorb(state):
-            state.absorb(TEXT)
-
-        def reading(state):
-            absorb(state)
-            state.begin_second()
-
-        def writing(state):
-            reading(state)
-            state.update_in_place(bytearray(TEXT))
-
-        def checked(state):
-            check(state)
-            state.begin_second()
-
-        def mismatch(state):
-            state.check(TEXT)
-            self.assertRaises(aeadkit.TagMismatch, state.begin_second)
-
-        def changed(state):
-            checked(state)
-            state.update(TEXT)
-            self.assertRaises(aeadkit.SourceChanged, state.finish)
-
-        def nothing(state):
-            pass
-
-        begin = {"sealer": lambda: Sealer(Suite.AES_256_GCM, KEY, NONCE, aad=b"aad"),
-                 "opener": lambda: Key(Suite.AES_256_GCM, KEY).opener(NONCE, tag, aad=b"aad"),
-                 "siv": lambda: SivSealer(Suite.AES_256_GCM_SIV, KEY, NONCE)}
-        unfinished = [("sealer", sealer), ("sealer", sealer_in_place), ("opener", check), ("opener", second),
-                      ("opener", out_of_order), ("opener", out_of_second_order), ("opener", too_long), ("siv", absorb),
-                      ("siv", reading), ("siv", writing)]
-        for kind, use in unfinished:
-            state = begin[kind]()
-            with self.assertRaisesRegex(aeadkit.NotFinished, "before finish"):
-                with state:
-                    use(state)
-            self.assertRaisesRegex(aeadkit.NotBegun, "closed", state.finish)
-            # another exception is not replaced; close and a new __init__ end the sealing or opening on purpose
-            with self.assertRaises(KeyError):
-                with begin[kind]() as state:
-                    use(state)
-                    raise KeyError()
-            with begin[kind]() as state:
-                use(state)
-                state.close()
-            with begin[kind]() as state:
-                use(state)
-                state.__init__(state.suite, KEY, NONCE, *((tag,) if kind == "opener" else ()))
-        for kind, use in unfinished:
-            with warnings.catch_warnings(record=True) as caught:
-                warnings.simplefilter("always")
-                state = begin[kind]()
-                use(state)
-                name = type(state).__name__
-                del state
-                state = begin[kind]()
-                use(state)
-                state.close()
-                del state
-                state = begin[kind]()
-                use(state)
-                self.assertRaises(aeadkit.NotFinished, state.__exit__)
-                del state
-
-                def generator():
-                    with begin[kind]() as state:
-                        use(state)
-                        yield
-                        state.close()
-
-                # the generator is closed before its end, deleted, and run to its end
-                for end in (lambda made: made.close(), lambda made: None, list):
-                    made = generator()
-                    next(made)
-                    end(made)
-                    del made
-            self.assertEqual([(one.category, str(one.message), one.filename) for one in caught],
-                             [(ResourceWarning, f"a {name} was given up before finish or close", __file__)] * 3)
-        for kind, use in [(kind, nothing) for kind in begin] + [("opener", checked), ("opener", mismatch), ("opener", changed)]:
-            with begin[kind]() as state:
-                use(state)
-        for kind, use in unfinished[:2] + [unfinished[3], unfinished[5], unfinished[9]]:
-            with begin[kind]() as state:
-                use(state)
-                state.finish()
-        with warnings.catch_warnings():
-            warnings.simplefilter("error")
-            for kind, use in [(kind, nothing) for kind in begin] + [("opener", checked), ("opener", mismatch), ("opener", changed)]:
-                state = begin[kind]()
-                use(state)
-                state.__del__()
-            for kind, use in unfinished[:2] + [unfinished[3], unfinished[5], unfinished[9]]:
-                state = begin[kind]()
-                use(state)
-                state.finish()
-                state.__del__()
 
     def test_a_finalizer_in_a_cycle(self):
         """It may run after the finalizer of the struct, which wipes it. Then its call is refused."""

@@ -172,18 +172,6 @@ class Forks(unittest.TestCase):
         self.in_child(lambda: sealer.update(b"XX"))
         self.assertEqual(made + sealer.update(b"xt") + sealer.finish(), Key(Suite.AES_256_GCM, KEY).seal(NONCE, b"text"))
 
-    def test_a_child_may_leave_a_with_statement(self):
-        """The child does not have to finish what its parent began."""
-        with Sealer(Suite.AES_256_GCM, KEY, NONCE) as sealer:
-            made = sealer.update(b"text")
-
-            def leaves():
-                sealer.__exit__(None, None, None)
-                return True
-
-            self.assertTrue(self.in_child(leaves))
-            self.assertEqual(made + sealer.finish(), Key(Suite.AES_256_GCM, KEY).seal(NONCE, b"text"))
-
     def test_a_child_has_keys_and_states_of_its_own(self):
         key = Key(Suite.AES_256_GCM, KEY)
         expected = key.seal(NONCE, b"text")
