@@ -15,11 +15,11 @@ bytearray(b'another text')
 
 The associated data, aad, is neither hidden nor stored in the sealing, but opening with other associated data fails: put
 there whatever says which text it is. Keys, nonces, associated data and texts are bytes, or any object that gives its bytes:
-bytearray, memoryview, array.array, mmap.mmap, an array of numpy. Anything else is a TypeError, and so is an object whose bytes
-are addresses, such as a ctypes.c_char_p or an array of objects: for a c_char_p take its value. An argument that is not bytes is
-copied before the call uses it: if another thread writes to it meanwhile, the sealing is that of the copy. A call that is handed
-to another thread, by pool.submit or asyncio.to_thread, makes this copy only when it runs there: leave the buffer as it is until
-the result has come, or hand over bytes(buffer). Results are bytes.
+bytearray, memoryview, array.array, mmap.mmap, an array of numpy with numbers. Anything else is a TypeError, and so is an object
+whose bytes are addresses, such as a ctypes.c_char_p or an array of objects. An argument that is not bytes is copied before the
+call uses it: if another thread writes to it meanwhile, the sealing is that of the copy. A call that is handed to another thread,
+by pool.submit or asyncio.to_thread, makes this copy only when it runs there: leave the buffer as it is until the result has come,
+or hand over bytes(buffer). Results are bytes.
 
 The calls whose names end in in_place change a writable buffer where it stands, such as a bytearray, and do not copy it. A slice
 of a bytearray or an array.array, as in data[1:5], is a copy, and what the call makes of it is lost: pass memoryview(data)[1:5].
@@ -54,7 +54,6 @@ import ctypes
 import enum
 import io
 import os
-import re
 import sys
 import threading
 from typing import Any, Callable, Dict, List, NoReturn, Optional, Tuple, Type, TypeVar, Union
@@ -77,7 +76,8 @@ else:
 # There is no open in this list, so that `from aeadkit import *` leaves Python's own.
 __all__ = ["Suite", "Key", "Sealer", "Opener", "SivSealer", "seal", "seal_in_place", "open_in_place", "wrap", "unwrap",
            "wrap_padded", "unwrap_padded", "Refused", "KeyLength", "NonceLength", "TextTooLong", "AadTooLong", "TooShort",
-           "TagLength", "TagMismatch", "WrapLength", "WrapIntegrity", "SourceChanged", "UnknownSuite", "NotBegun", "library_version"]
+           "TagLength", "TagMismatch", "WrapLength", "WrapIntegrity", "SourceChanged", "UnknownSuite", "NotBegun",
+           "library_version"]
 
 __version__ = "0.0.0"
 library_version: str = _library.VERSION
@@ -237,31 +237,16 @@ def _suite_of(suite: int) -> Suite:
 # ---- The arguments and the results of the library's functions
 
 
-# What stands for an address in the format of a buffer: of anything, an object, a function or a string of ctypes. Zf, Zd and Zg
-# are complex numbers. Fields of structs have names.
-_has_addresses = re.compile("[&OPXz]|Z(?![fdg])").search
-_field_name = re.compile(":[^:]*:")
-_composed = (ctypes.Structure, ctypes.Union, ctypes.Array)
-
-
-def _has_pointers(kind: Any) -> bool:
-    """Whether a type of ctypes has addresses in it. Of a union, of a packed struct and of the fields of a base class, the format
-    does not say so."""
-    if issubclass(kind, ctypes.Array):
-        return _has_pointers(kind._type_)
-    if issubclass(kind, _composed):
-        return any(_has_pointers(field[1]) for base in kind.__mro__ for field in vars(base).get("_fields_", ()))
-    return bool(_has_addresses(memoryview(kind()).format))
+# The formats of a buffer whose items are bytes or numbers, and not addresses of something else.
+_FORMATS = frozenset("?bBchHiIlLqQnNefd")
 
 
 def _view_of(data: Buffer) -> memoryview:
-    """The memory of the data, if it holds the bytes that the caller means: no addresses of something else."""
+    """The memory of the data, if it holds the bytes that the caller means."""
     view = memoryview(data)
-    form = view.format
-    if (form != "B" and _has_addresses(_field_name.sub("", form))
-            or isinstance(view.obj, _composed) and _has_pointers(type(view.obj))):
+    if view.format.lstrip("@=<>!") not in _FORMATS:
         view.release()
-        raise TypeError(f"the bytes of a {type(data).__name__!r} are addresses, and not what stands there")
+        raise TypeError(f"bytes or numbers are required, and not the items of a {type(data).__name__!r}")
     return view
 
 
