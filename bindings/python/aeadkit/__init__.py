@@ -397,17 +397,6 @@ def open_in_place(suite: int, key: Buffer, nonce: Buffer, ciphertext: Buffer, ta
 
 # ---- Structs
 
-# Stands for this process: a forked child puts another object in its place.
-_process = object()
-
-
-def _enter_child() -> None:
-    global _process
-    _process = object()
-
-
-os.register_at_fork(after_in_child=_enter_child)
-
 
 class _Struct:
     """One of the library's structs, with its suite, and the lock under which a call changes it. It stands for its address in a
@@ -419,12 +408,7 @@ class _Struct:
         self._wipe = kind.wipe
         self.suite = suite
         self.lock = threading.RLock()
-        self._process = _process
-        self._process_number = os.getpid()
-
-    def is_forked(self) -> bool:
-        """Whether this process was forked from the struct's own: by Python, or by a library that does not tell Python."""
-        return self._process is not _process or self._process_number != os.getpid()
+        self.process = os.getpid()
 
     def __del__(self) -> None:
         self._wipe(self._as_parameter_)
@@ -499,7 +483,7 @@ class _InPieces(_HasStruct):
 
     def _call(self, function: Callable[..., int], *arguments: Any) -> int:
         struct = self._get_struct()
-        if struct.is_forked():
+        if struct.process != os.getpid():
             raise NotBegun(f"this {type(self).__name__} belongs to the process that this one was forked from")
         with struct.lock:
             return function(struct, *arguments)

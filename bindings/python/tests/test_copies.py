@@ -1,7 +1,6 @@
 """Copies of keys and of sealings and openings in pieces: copy, pickle, dataclasses and fork."""
 
 import copy
-import ctypes
 import dataclasses
 import os
 import pickle
@@ -124,29 +123,16 @@ class States(unittest.TestCase):
 
 @unittest.skipUnless(hasattr(os, "fork"), "no fork")
 class Forks(unittest.TestCase):
-    def in_child(self, call, fork=os.fork):
+    def in_child(self, call):
         """Whether the call returns true in a forked process."""
         sys.stdout.flush()
-        child = fork()
+        child = os.fork()
         if child == 0:
             try:
                 os._exit(0 if call() else 1)
             except BaseException:
                 os._exit(2)
         return os.waitpid(child, 0)[1] == 0
-
-    def test_a_fork_that_python_does_not_know(self):
-        """A library in C may fork without running Python's hooks."""
-        for state in states():
-
-            def refused():
-                try:
-                    state.finish()
-                except aeadkit.NotBegun as fault:
-                    return "forked" in str(fault)
-                return False
-
-            self.assertTrue(self.in_child(refused, ctypes.PyDLL(None).fork), state)
 
     def test_a_state_stays_with_its_process(self):
         for state in states():
