@@ -720,9 +720,6 @@ class Opener(_InPieces):
         """
         _check(self._call(_library.aeadkit_opener_begin_second))
 
-    # the name in version 2
-    checked = begin_second
-
     def update(self, piece: Buffer) -> bytes:
         """Returns the text of the next piece of the ciphertext in the second pass.
 
@@ -784,9 +781,6 @@ class SivSealer(_InPieces):
         """Ends the first reading, begins the second one, and returns the tag of the text, of 16 bytes. Raises NotBegun if there
         is no first reading to end."""
         return _tag(self._call, _library.aeadkit_siv_begin_second)
-
-    # the name in version 2
-    tag = begin_second
 
     def update(self, piece: Buffer) -> bytes:
         """Returns the ciphertext of the next piece of the text in the second reading.

@@ -44,19 +44,6 @@ class Arguments(unittest.TestCase):
                 self.assertEqual(parameters["aad"].kind, inspect.Parameter.KEYWORD_ONLY)
                 self.assertIsNone(parameters["aad"].default)
 
-    def test_earlier_orders_are_refused(self):
-        key = Key(Suite.AES_256_GCM, KEY)
-        for call in (lambda: aeadkit.seal(Suite.AES_256_GCM, KEY, NONCE, b"aad", TEXT),
-                     lambda: aeadkit.open(Suite.AES_256_GCM, KEY, NONCE, b"aad", SEALED),
-                     lambda: key.seal(NONCE, TEXT, b"aad"), lambda: key.open(NONCE, SEALED, b"aad"),
-                     lambda: key.sealer(NONCE, b"aad"), lambda: Sealer(Suite.AES_256_GCM, KEY, NONCE, b"aad"),
-                     lambda: SivSealer(Suite.AES_256_GCM_SIV, KEY, NONCE, b"aad"),
-                     lambda: key.opener(NONCE, SEALED[-16:], b"aad"), lambda: key.siv_sealer(NONCE, b"aad"),
-                     lambda: key.seal_in_place(NONCE, bytearray(TEXT), b"aad"),
-                     lambda: key.open_in_place(NONCE, bytearray(SEALED[:-16]), SEALED[-16:], b"aad"),
-                     lambda: Opener(Suite.AES_256_GCM, KEY, NONCE, SEALED[-16:], b"aad")):
-            self.assertRaises(TypeError, call)
-
     def test_no_aad_is_empty_aad(self):
         self.assertEqual(aeadkit.seal(Suite.AES_256_GCM, KEY, NONCE, TEXT),
                          aeadkit.seal(Suite.AES_256_GCM, KEY, NONCE, TEXT, aad=b""))
@@ -362,15 +349,6 @@ class Order(unittest.TestCase):
         sealer.update(TEXT)
         sealer.__init__(Suite.AES_256_GCM, KEY, NONCE, aad=b"aad")
         self.assertEqual(sealer.update(TEXT) + sealer.finish(), SEALED)
-
-
-    def test_the_names_of_version_2(self):
-        opener, siv = Opener(Suite.AES_256_GCM, KEY, NONCE, SEALED[-16:], aad=b"aad"), SivSealer(5, KEY[:16], NONCE)
-        opener.check(SEALED[:-16])
-        opener.checked()
-        self.assertEqual(opener.update(SEALED[:-16]), TEXT)
-        siv.absorb(TEXT)
-        self.assertEqual(siv.tag(), aeadkit.seal(5, KEY[:16], NONCE, TEXT)[-16:])
 
 
 class Closing(unittest.TestCase):
