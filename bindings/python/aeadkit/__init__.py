@@ -224,9 +224,8 @@ class Suite(enum.IntEnum):
 def _suite_of(suite: int) -> Suite:
     if type(suite) is Suite:
         return suite
-    # The message shows no other value than a number: it may be a key in the suite's place. True is no number of a suite, and a
-    # member of another enumeration stands for something else.
-    if not isinstance(suite, int) or isinstance(suite, (bool, enum.Enum)):
+    # the message shows no other value than a number: it may be a key in the suite's place
+    if not isinstance(suite, int):
         raise TypeError(f"a member of Suite is required, not {type(suite).__name__!r}")
     try:
         return Suite(suite)
@@ -519,8 +518,6 @@ class Key(_HasStruct):
     """
 
     def __init__(self, suite: int, key: Buffer) -> None:
-        if self._struct is not None:
-            raise TypeError("a Key cannot be changed: make another one")
         member = _suite_of(suite)
         self._struct = _begin(_library.KEY, member, _library.aeadkit_key_init, member, *_slices(key))
 
@@ -654,7 +651,6 @@ class Sealer(_InPieces):
     _init = staticmethod(_library.aeadkit_sealer_init)
 
     def __init__(self, suite: int, key: Buffer, nonce: Buffer, *, aad: Optional[Buffer] = None) -> None:
-        self._struct = None
         member = _suite_of(suite)
         self._struct = _begin(self._kind, member, self._init, member, *_slices(key, nonce, _aad_of(aad)))
 
@@ -700,7 +696,6 @@ class Opener(_InPieces):
     _init = staticmethod(_library.aeadkit_opener_init)
 
     def __init__(self, suite: int, key: Buffer, nonce: Buffer, tag: Buffer, *, aad: Optional[Buffer] = None) -> None:
-        self._struct = None
         member = _suite_of(suite)
         self._struct = _begin(self._kind, member, self._init, member, *_slices(key, nonce, _aad_of(aad)),
                               _tag_of(tag))
@@ -766,7 +761,6 @@ class SivSealer(_InPieces):
     _init = staticmethod(_library.aeadkit_siv_init)
 
     def __init__(self, suite: int, key: Buffer, nonce: Buffer, *, aad: Optional[Buffer] = None) -> None:
-        self._struct = None
         member = _suite_of(suite)
         self._struct = _begin(self._kind, member, self._init, member, *_slices(key, nonce, _aad_of(aad)))
 

@@ -75,8 +75,6 @@ class Keys(unittest.TestCase):
 
     def test_a_key_does_not_change(self):
         key = Key(Suite.AES_256_GCM, KEY)
-        with self.assertRaises(TypeError):
-            key.__init__(Suite.AES_256_GCM, bytes(32))
         with self.assertRaises(AttributeError):
             key.suite = Suite.AES_128_GCM
         self.assertEqual(key.seal(NONCE, b"text"), Key(Suite.AES_256_GCM, KEY).seal(NONCE, b"text"))

@@ -112,22 +112,6 @@ class Threads(unittest.TestCase):
             with ThreadPoolExecutor(8) as pool:
                 self.assertTrue(all(pool.map(round_trip, range(500))))
 
-    def test_begun_anew_beside_a_call(self):
-        """__init__ begins a new struct, and a call in another thread goes on with the old one."""
-        expected = seal(Suite.CHACHA20_POLY1305, bytes(LONG))
-        for _ in range(ROUNDS):
-            sealer = Sealer(Suite.CHACHA20_POLY1305, KEY, NONCE)
-
-            def update():
-                try:
-                    return bytes(sealer.update(bytes(LONG)))
-                except aeadkit.NotBegun:
-                    return expected[:-16]
-
-            made = at_once(update, lambda: sealer.__init__(Suite.CHACHA20_POLY1305, KEY, NONCE))[0]
-            self.same(made, expected[:-16])
-            self.assertEqual(len(sealer.finish()), 16)
-
     def test_in_place(self):
         """Two pieces that are changed in place have different parts of the key stream too."""
         suite = Suite.CHACHA20_POLY1305
