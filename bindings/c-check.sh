@@ -1,6 +1,6 @@
 #!/bin/sh
-# Compiles the header for each standard of C, measures the stack of each call, loads two versions of the library into one
-# process, and runs the examples, also on damaged messages, files, wrappings and backups.
+# Compiles the header for each standard of C, measures the stack of each call, and runs the examples, also on damaged messages,
+# files, wrappings and backups.
 set -eu
 unset CDPATH
 if [ $# != 1 ]; then
@@ -93,63 +93,13 @@ done
 ! cc -flto "$room/probe.c" -o "$room/probe" > "$room/log" 2>&1 || linked -flto "$out/libaeadkit.a"
 echo "ok: programs with each kind of path to the library, and one that is optimized as a whole"
 
-# Two versions in one process: a caller of each gets its own, whichever is loaded first.
-echo 'AEADKIT_2 { global: aeadkit_sealer_size; local: *; };' > "$room/other.map"
-mkdir "$room/other"
-cc -shared -fPIC -DOTHER c/versions.c -Wl,-soname,libaeadkit.so.2 -Wl,--version-script="$room/other.map" \
-    -o "$room/other/libaeadkit.so"
-ln -s libaeadkit.so "$room/other/libaeadkit.so.2"
-cc -shared -fPIC -DCALLER=by_the_other c/versions.c -L"$room/other" -laeadkit -o "$room/libby_the_other.so"
-cc -shared -fPIC -DCALLER=by_this c/versions.c -L"$out" -laeadkit -o "$room/libby_this.so"
-for order in "-lby_the_other -lby_this" "-lby_this -lby_the_other"; do
-    cc c/versions.c -L"$room" $order -Wl,-rpath-link,"$room/other:$out" -o "$room/versions"
-    LD_LIBRARY_PATH=$room:$room/other:$out "$room/versions" \
-        || { echo "of two versions in one process ($order) a caller gets the wrong one" >&2; exit 1; }
-done
-# The names of the archive are hidden, as bindings/README.md says. Each of two shared objects that link archives calls its own
-# archive, and a shared object that was linked with another version calls that one, even if the program links the archive.
-cc -c -fPIC -DOTHER c/versions.c -o "$room/other.o"
-ar rc "$room/other/libaeadkit.a" "$room/other.o"
-cc -shared -fPIC -DCALLER=by_this c/versions.c "$out/libaeadkit.a" -o "$room/libby_this.so"
-cc -c -DCALLER=by_this c/versions.c -o "$room/by_this.o"
-cc c/versions.c "$room/by_this.o" "$out/libaeadkit.a" -L"$room" -lby_the_other -Wl,-rpath-link,"$room/other" -o "$room/versions"
-LD_LIBRARY_PATH=$room:$room/other "$room/versions" \
-    || { echo "a library calls the archive of the program and not the version that it was linked with" >&2; exit 1; }
-cc -shared -fPIC -DCALLER=by_the_other c/versions.c "$room/other/libaeadkit.a" -o "$room/libby_the_other.so"
-for order in "-lby_the_other -lby_this" "-lby_this -lby_the_other"; do
-    cc c/versions.c -L"$room" $order -o "$room/versions"
-    LD_LIBRARY_PATH=$room "$room/versions" \
-        || { echo "of two archives in one process ($order) a caller gets the wrong one" >&2; exit 1; }
-done
-# Two versions in one program, without a shared library: a caller is joined with its archive, whose names are then made local.
-# Other hidden names are not: a counter of the callers' own stays one. The joined object is linked, and then a static library of
-# it. gcc joins also a caller that is compiled with -flto.
-cc -c -DCALLER=by_the_other c/versions.c -o "$room/by_the_other.o"
-grep -q -e "cc -r -nostdlib CALLER.o libaeadkit.a -o JOINED.o" README.md
-grep -q -e "objcopy -w -L 'aeadkit_\*' -L 'AEADKIT_\*' JOINED.o" README.md
-join() {
-    cc $1 -c -DCALLER=by_this c/versions.c -o "$room/by_this.o" \
-        && cc -r -nostdlib "$room/by_this.o" "$out/libaeadkit.a" -o "$room/joined.o"
-}
-lto=-flto
-join $lto > "$room/log" 2>&1 || lto=
-for way in "" $lto; do
-    join "$way" > "$room/log" 2>&1 || { cat "$room/log" >&2; exit 1; }
-    objcopy -w -L 'aeadkit_*' -L 'AEADKIT_*' "$room/joined.o"
-    rm -f "$room/libjoined.a"
-    ar rc "$room/libjoined.a" "$room/joined.o"
-    other=$room/by_the_other.o
-    for order in "$room/joined.o $other" "$other $room/joined.o" "$other $room/libjoined.a" "$room/libjoined.a $other"; do
-        for library in "$room/other/libaeadkit.a" "$room/other/libaeadkit.so"; do
-            cc -DCOUNTED c/versions.c $order "$library" -o "$room/versions"
-            LD_LIBRARY_PATH=$room/other "$room/versions" || {
-                echo "of two versions in one program ($way $order $library) a caller gets the wrong one, or a counter of its own" >&2
-                exit 1
-            }
-        done
-    done
-done
-echo "ok: two versions of the library in one process, shared and as archives"
+# A plug-in that links the archive keeps its names to itself.
+echo '#include "aeadkit.h"' > "$room/plugin.c"
+echo 'uint32_t plugin(void); uint32_t plugin(void) { return aeadkit_version(); }' >> "$room/plugin.c"
+cc $strict -shared -fPIC "$room/plugin.c" "$out/libaeadkit.a" -o "$room/plugin.so"
+[ "$(nm -D --defined-only "$room/plugin.so" | awk '{ print $3 }')" = plugin ] \
+    || { echo "a plug-in that links the archive exports its names" >&2; exit 1; }
+echo "ok: a plug-in that links the archive exports none of its names"
 
 export ASAN_OPTIONS=detect_leaks=0
 by="cc $strict -fsanitize=address,undefined -fno-sanitize-recover=all"
