@@ -13,7 +13,6 @@ the text and no more: throw it away unless the status is 0. A program that fails
 too, which is sealed like a whole text: look at its status as well.
 """
 
-import errno
 import os
 import sys
 from typing import BinaryIO, Iterator, Tuple
@@ -27,61 +26,27 @@ WRAPPED = 40
 
 def segments(source: BinaryIO, size: int) -> Iterator[Tuple[bytes, bytes]]:
     """Each segment with its nonce. An empty text has one segment, which is empty too."""
-    number, segment = 0, read(source, size)
+    number, segment = 0, source.read(size)
     while True:
-        following = read(source, size)
+        following = source.read(size)
         yield number.to_bytes(11, "big") + bytes([not following]), segment
         if not following:
             return
         number, segment = number + 1, following
 
 
-def read(source: BinaryIO, size: int) -> bytes:
-    """The next bytes: fewer only at the end, though a pipe gives what it has."""
-    parts = []
-    while size:
-        part = source.read(size)
-        if part is None:  # a pipe that does not wait, and is not at its end: what comes later would be cut off
-            raise BlockingIOError("the input does not wait for more")
-        if not part:
-            break
-        parts.append(part)
-        size -= len(part)
-    return b"".join(parts)
-
-
-def write(target: BinaryIO, data: bytes) -> None:
-    """Writes all of the bytes: a stream without a buffer, such as the output of python -u, may take fewer of them."""
-    left = memoryview(data)
-    while left:
-        taken = target.write(left)
-        if taken is None:  # a pipe that does not wait, and is full
-            raise BlockingIOError("the output does not wait for more")
-        left = left[taken:]
-
-
-def settle(file: int) -> None:
-    """Waits until what was written is on the disk. Some file systems, such as NFS, say only then that it has no room for it."""
-    try:
-        os.fsync(file)
-    except OSError as fault:
-        if fault.errno not in (errno.EINVAL, errno.EROFS):  # of a pipe or a terminal
-            raise
-    os.close(os.dup(file))
-
-
 def seal(master: bytes, label: bytes, source: BinaryIO, target: BinaryIO) -> None:
     secret = os.urandom(32)
-    write(target, wrap(master, secret))
+    target.write(wrap(master, secret))
     key = Key(Suite.CHACHA20_POLY1305, secret)
     for nonce, text in segments(source, SEGMENT):
-        write(target, key.seal(nonce, text, aad=label))
+        target.write(key.seal(nonce, text, aad=label))
 
 
 def open_sealed(master: bytes, label: bytes, source: BinaryIO, target: BinaryIO) -> None:
-    key = Key(Suite.CHACHA20_POLY1305, unwrap(master, read(source, WRAPPED)))
+    key = Key(Suite.CHACHA20_POLY1305, unwrap(master, source.read(WRAPPED)))
     for nonce, sealed in segments(source, SEGMENT + TAG):
-        write(target, key.open(nonce, sealed, aad=label))
+        target.write(key.open(nonce, sealed, aad=label))
 
 
 def main() -> None:
@@ -95,7 +60,6 @@ def main() -> None:
     try:
         calls[sys.argv[1]](master, os.fsencode(sys.argv[3]), sys.stdin.buffer, sys.stdout.buffer)
         sys.stdout.buffer.flush()
-        settle(sys.stdout.fileno())
     except (Refused, OSError) as fault:
         sys.exit(f"segments.py: {fault}")
 
