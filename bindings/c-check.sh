@@ -178,13 +178,9 @@ not_opened "$room/key" label "$room/no-file"
 wanted="usage"
 not_opened "$room/key" label
 does 1 "$room/file" seal "$room/key" label "$folder/opened" "$room/no-folder/sealed"
-# a folder is not an empty text, also where its length is 0, as in /proc
-for other in "$room" /proc; do
-    [ -d "$other" ] || continue
-    does 1 "$room/file" seal "$room/key" label "$other" "$folder/of-folder"
-    does 1 "$room/file" open "$room/key" label "$other" "$folder/of-folder"
-    [ ! -e "$folder/of-folder" ] || { echo "the folder $other is sealed as a file" >&2; exit 1; }
-done
+# a folder is not an empty text
+does 1 "$room/file" seal "$room/key" label "$room" "$folder/of-folder"
+[ ! -e "$folder/of-folder" ] || { echo "a folder is sealed as a file" >&2; exit 1; }
 # a pipe, a link or a device stays what it is
 mkfifo "$room/pipe"
 ln -s opened "$folder/link"
@@ -203,15 +199,6 @@ for name in key link; do
 done
 cmp "$room/key" "$folder/key"
 rm "$folder/link" "$folder/key"
-# an OUT with the longest name that the system takes has no temporary name beside it, and stays as it was
-deep=$room/deep
-while [ ${#deep} -lt 3840 ]; do deep=$deep/$(printf %0200d 0); done
-if mkdir -p "$deep" 2> "$room/log"; then
-    deep=$deep/$(printf "%0$((4094 - ${#deep}))d" 0)
-    cp "$room/text" "$deep"
-    does 1 "$room/file" seal "$room/key" label "$folder/opened" "$deep"
-    cmp -s "$room/text" "$deep" || { echo "file removes an OUT with a long name" >&2; exit 1; }
-fi
 # a file with more bytes than its length says would be cut off
 does 1 "$room/file" seal "$room/key" label /dev/zero "$folder/opened"
 grep -q "longer than it was" "$room/fault"
@@ -258,15 +245,6 @@ does 1 "$room/wrap" wrap "$room/user-key" < "$room/text"
 grep -q "wrong length for wrapping" "$room/fault"
 does 1 "$room/wrap" wraps "$room/user-key" < "$room/text"
 grep -q "WAY is wrap" "$room/fault"
-# a pipe that does not wait, and has as many bytes as there is room for, but is not at its end
-head -c 4096 /dev/urandom > "$room/text"
-{
-    cat "$room/text" >&3
-    if dd iflag=nonblock count=0 <&3 2> "$room/log"; then
-        does 1 "$room/wrap" wrap "$room/user-key" <&3
-        grep -q "a file cannot be read" "$room/fault"
-    fi
-} 3<> "$room/pipe"
 
 # The threads.
 does 0 "$room/threads"
@@ -275,46 +253,14 @@ for record in 0 999 1000 3999; do
     does 1 "$room/threads" $record
     [ "$(cat "$room/out")" = "3999 of 4000 records opened" ]
 done
-# An output that cannot be written is a failure, also if it is written line by line, as to a terminal, or without a buffer.
-if [ -e /dev/full ]; then
-    ways=full
-    ! stdbuf --version > "$room/log" 2>&1 || ways="full line none"
-    for way in $ways; do
-        case $way in line) through="stdbuf -oL" ;; none) through="stdbuf -o0" ;; *) through= ;; esac
-        for example in message threads; do
-            status=0
-            ASAN_OPTIONS=$ASAN_OPTIONS:verify_asan_link_order=0 $through "$room/$example" > /dev/full 2> "$room/fault" || status=$?
-            [ $status = 1 ] && [ ! -s "$room/fault" ] \
-                || { echo "$example writes nothing and ends with $status" >&2; cat "$room/fault" >&2; exit 1; }
-        done
-        status=0
-        ASAN_OPTIONS=$ASAN_OPTIONS:verify_asan_link_order=0 $through "$room/wrap" wrap "$room/user-key" < "$room/text" > /dev/full \
-            2> "$room/fault" || status=$?
-        [ $status = 1 ] && grep -q "cannot be written" "$room/fault" \
-            || { echo "wrap writes nothing and ends with $status" >&2; cat "$room/fault" >&2; exit 1; }
-    done
-fi
-# So is one that meets the limit of a file's size, whether its signal ends the program or is ignored: limited BLOCKS IN WORD..
-limited() {
-    blocks=$1
-    in=$2
-    shift 2
-    for signal in - ""; do
-        status=0
-        {
-            (ulimit -c 0 && ulimit -f "$blocks" && trap "$signal" XFSZ && exec "$@") < "$in" > "$room/limited" || status=$?
-        } 2> /dev/null # the shell's own line about the signal too
-        [ $status != 0 ] || { echo "$* cannot write all and ends with 0" >&2; exit 1; }
-    done
-}
-limited 0 /dev/null "$room/message"
-limited 0 /dev/null "$room/threads"
-limited 1 "$room/text" "$room/wrap" wrap "$room/user-key"
-cp "$folder/sealed" "$folder/before"
-for way in seal open; do
-    limited 64 /dev/null "$room/file" $way "$room/key" label "$folder/before" "$folder/sealed"
+# An output that cannot be written is a failure.
+head -c 32 /dev/urandom > "$room/text"
+for words in message threads "wrap wrap $room/user-key"; do
+    [ -e /dev/full ] || continue
+    status=0
+    "$room/"$words < "$room/text" > /dev/full 2> "$room/fault" || status=$?
+    [ $status = 1 ] || { echo "$words writes nothing and ends with $status" >&2; cat "$room/fault" >&2; exit 1; }
 done
-cmp "$folder/before" "$folder/sealed"
 echo "ok: the examples, whole and damaged: messages, files, wrappings and threads"
 
 # The backup: want STATUS WORD.. of backup, from in to out.
@@ -396,6 +342,4 @@ if [ -e /dev/full ]; then
     "$room/backup" seal "$room/key" label < "$room/text" > /dev/full 2> "$room/fault" || status=$?
     [ $status = 3 ]
 fi
-limited 64 "$room/text" "$room/backup" seal "$room/key" label
-limited 64 "$room/sealed" "$room/backup" open "$room/key" label
 echo "ok: backups in segments, whole, damaged, cut and exchanged"
