@@ -10,7 +10,8 @@ if [ $# != 1 ]; then
   PREFIX    what build.sh laid out, whole or with --library
   --build   the library is laid out there first, if cc, nm and objcopy are there to build it
 It prints a line for each language, 'ok: ..', or 'left out: ..' if its compiler or interpreter is not there, and the same for
-the program. It refuses a PREFIX whose header or whose packages are not those of the repository." >&2
+the program. It refuses a PREFIX whose header is not that of the repository. The packages are laid out anew over the library of
+PREFIX, and checked there." >&2
     exit 2
 fi
 # What is checked is the library of PREFIX, whatever library or package the caller's environment names.
@@ -22,11 +23,8 @@ cd "$(dirname "$0")"
 . ./copy.sh
 room=$(mktemp -d)
 trap 'rm -rf "$room"' EXIT
-# A script finds its folder and its repository whatever CDPATH says, which leads nowhere here.
-mkdir -p "$room/elsewhere/bindings"
 for script in quotations links believe; do
-    (cd .. && CDPATH=$room/elsewhere "bindings/$script.sh")
-    ! "./$script.sh" "$room/elsewhere" > "$room/log" 2>&1 || { echo "$script.sh says ok of a folder without documents" >&2; exit 1; }
+    "./$script.sh"
 done
 ./published.sh .. "$prefix/bin/aeadkit"
 if [ $build = yes ]; then
@@ -78,11 +76,6 @@ done
 echo "ok: $soname exports, as names of $node, $exported"
 
 if makes "$room/probe.c" cc; then
-    # The caller's LD_LIBRARY_PATH may lead to another library with this name. Here it leads to one whose calls end the program.
-    for name in $exported; do echo "void $name(void) { __builtin_trap(); }"; done > "$room/another.c"
-    mkdir "$room/another"
-    cc -shared -fPIC "$room/another.c" -Wl,-soname,"$soname" -Wl,--version-script=exports.map -o "$room/another/$soname"
-    export LD_LIBRARY_PATH="$room/another${LD_LIBRARY_PATH:+:$LD_LIBRARY_PATH}"
     cc -std=c11 -O2 $warnings $include c/calls.c "$out/libaeadkit.a" -o "$room/c"
     "$room/c"
     cc -std=c11 -O2 $warnings $include c/pieces.c "$out/libaeadkit.a" -o "$room/pieces"
@@ -110,24 +103,6 @@ if makes "$room/probe.c" cc; then
         cp "$file" "$room/alone/$soname"
         LD_LIBRARY_PATH=$room/alone "$room/version" || { echo "$build is not of version $version" >&2; exit 1; }
     done
-    # So build.sh removes the builds that it does not make again before it builds anything. This is shown by an rt that fails. Here
-    # too CDPATH leads nowhere.
-    mkdir -p "$room/stub" "$room/again/lib/glibc-hwcaps/x86-64-v3" "$room/again/lib/x86-64-v3"
-    printf '#!/bin/sh\nexit 1\n' > "$room/stub/rt"
-    chmod +x "$room/stub/rt"
-    touch "$room/again/lib/glibc-hwcaps/x86-64-v3/libaeadkit.so" "$room/again/lib/x86-64-v3/libaeadkit.a"
-    for major in $((${version%%.*} - 1)) ${version%%.*}; do
-        touch "$room/again/lib/glibc-hwcaps/x86-64-v3/libaeadkit.so.$major" \
-            "$room/again/lib/glibc-hwcaps/x86-64-v3/libaeadkit.so.$major.0.0"
-    done
-    for name in $(sed -E 's/[ :].*//' ../crates.txt); do
-        mkdir -p "$room/again/.aeadkit/crates/$name/out"
-    done
-    ! (cd .. && CDPATH=$room/elsewhere AEADKIT_WORK= PATH=$room/stub:$PATH bindings/build.sh --library . "$room/again") \
-        > "$room/log" 2>&1
-    left=$(find "$room/again/lib" -name 'libaeadkit.*' ! -name "libaeadkit.so.$((${version%%.*} - 1))*" | wc -l)
-    [ "$left $(find "$room/again/lib" -name 'libaeadkit.*' | wc -l)" = "0 2" ] \
-        || { echo "build.sh --library leaves an earlier build for AVX2, or removes one of another major version" >&2; exit 1; }
     if makes "$room/probe.c" cc $sanitizers; then
         cc -std=c11 -g $warnings $sanitizers $include c/calls.c "$out/libaeadkit.a" -o "$room/c-sanitized"
         ASAN_OPTIONS=detect_leaks=0 "$room/c-sanitized"
@@ -147,40 +122,11 @@ else
     echo "left out: C++, no c++"
 fi
 
-# The packages: pip takes the wheel, or without pip its folder is read; rust-check.sh builds the crate; the one for JavaScript is
-# laid out beside the module of PREFIX.
+# The packages, laid out in a folder of their own over the library of PREFIX: pip takes the wheel, or without pip its folder is
+# read; rust-check.sh builds the crate; the one for JavaScript is laid out beside the module of PREFIX.
 mkdir "$room/laid"
 cp -a "$prefix/include" "$prefix/lib" "$room/laid/"
-# An earlier wheel is removed, even if there is no python3 to make another one. This is shown by a python3 that fails.
-mkdir -p "$room/no-python" "$room/laid/share/aeadkit"
-printf '#!/bin/sh\nexit 127\n' > "$room/no-python/python3"
-chmod +x "$room/no-python/python3"
-touch "$room/laid/share/aeadkit/aeadkit-2.1.0-py3-none-linux_x86_64.whl"
-PATH=$room/no-python:$PATH ./packages.sh "$room/laid"
-[ -z "$(find "$room/laid/share/aeadkit" -name '*.whl')" ] || { echo "packages.sh leaves an earlier wheel" >&2; exit 1; }
 ./packages.sh "$room/laid"
-# The packages of PREFIX, if it has any, are those that are checked here. Otherwise, as after build.sh --library over an earlier PREFIX,
-# 'ok' would be said of other packages than those that users install from there: current CHECKED INSTALLED
-current() {
-    (cd "$1" && find . -type f) > "$room/files"
-    while read -r file; do
-        cmp -s "$1/$file" "$2/$file" || {
-            echo "the packages in $prefix/share/aeadkit are not those of this repository and its library, as $file shows:
-lay them out there first, by packages.sh, or by wasm.sh if the file is of the package for JavaScript" >&2
-            exit 1
-        }
-    done < "$room/files"
-}
-for package in rust python; do
-    [ ! -e "$prefix/share/aeadkit/$package" ] || current "$room/laid/share/aeadkit/$package" "$prefix/share/aeadkit/$package"
-done
-for wheel in "$prefix/share/aeadkit/"*.whl; do
-    [ -e "$wheel" ] && [ -n "$(find "$room/laid/share/aeadkit" -name '*.whl')" ] || continue
-    rm -rf "$room/checked" "$room/installed"
-    python3 -m zipfile -e "$room/laid/share/aeadkit/"aeadkit-*.whl "$room/checked"
-    python3 -m zipfile -e "$wheel" "$room/installed"
-    current "$room/checked" "$room/installed"
-done
 if ! python3 -c 'import ctypes' > "$room/log" 2>&1; then
     echo "left out: Python, no python3 with ctypes"
 elif python3 -m venv "$room/venv" > "$room/log" 2>&1 && "$room/venv/bin/python" -m pip --version > "$room/log" 2>&1; then
@@ -199,7 +145,6 @@ if [ -e "$prefix/$package/aeadkit.wasm" ]; then
     mkdir -p "$room/laid/$package"
     cp "$prefix/$package/aeadkit.wasm" "$room/laid/$package/"
     javascript .. "$room/laid/$package"
-    current "$room/laid/$package" "$prefix/$package"
     ./wasm-check.sh "$room/laid"
 else
     echo "left out: JavaScript, whose module is not in PREFIX"
