@@ -1,7 +1,6 @@
 #!/bin/sh
 # Counts the lines of the definitions that docs/PROOFS.md leads through, and compares them with the numbers of the page.
 set -eu
-unset CDPATH
 write=no
 [ "${1:-}" != --write ] || { write=yes; shift; }
 if [ $# -gt 1 ]; then

@@ -1,7 +1,6 @@
 #!/bin/sh
 # Proves the library and the program, and lays them out with their headers, pages and packages.
 set -eu
-unset CDPATH
 whole=yes
 choice=
 usable=yes

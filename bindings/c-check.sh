@@ -2,7 +2,6 @@
 # Compiles the header for each standard of C, measures the stack of each call, and runs the examples, also on damaged messages,
 # files, wrappings and backups.
 set -eu
-unset CDPATH
 if [ $# != 1 ]; then
     echo "usage: c-check.sh PREFIX" >&2
     exit 2

@@ -2,7 +2,6 @@
 # Compares the documents with their files, looks at the library's names, builds and runs the examples over it, and installs each package
 # in a fresh folder.
 set -eu
-unset CDPATH
 build=no
 [ "${1:-}" != --build ] || { build=yes; shift; }
 if [ $# != 1 ]; then

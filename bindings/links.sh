@@ -1,7 +1,6 @@
 #!/bin/sh
 # Checks that the links, the paths and the names of the documents lead to something.
 set -eu
-unset CDPATH
 if [ $# -gt 1 ]; then
     echo "usage: links.sh [REPOSITORY]
 It looks at README.md, docs/*.md and bindings/README.md:

@@ -1,7 +1,6 @@
 #!/bin/sh
 # Lays out the packages for Rust and Python over a library that build.sh laid out, with its version.
 set -eu
-unset CDPATH
 if [ $# != 1 ]; then
     echo "usage: packages.sh PREFIX
   PREFIX   gets share/aeadkit/rust, a crate for cargo, and share/aeadkit/python, for pip, with a wheel if

@@ -3,7 +3,6 @@
 # the table of statuses; and lays out the documents that a user of the program needs. If the program prints no help, the
 # pages that are there stay as they were, and the status is 1.
 set -eu
-unset CDPATH
 if [ $# != 2 ]; then
     echo "usage: pages.sh PROGRAM SHARE
   SHARE   gets man/man1, doc/aeadkit, bash-completion/completions, zsh/site-functions and

@@ -2,7 +2,6 @@
 # Looks at the man page, completes command lines, seals, damages and opens files by examples/files.sh, runs the scripts of the
 # documents, and compares the two builds of the program, if both are there.
 set -eu
-unset CDPATH
 if [ $# != 1 ]; then
     echo "usage: program-check.sh PREFIX" >&2
     exit 2
@@ -33,10 +32,9 @@ if groff --version > "$room/log" 2>&1; then
 fi
 echo "ok: the man page has each fault"
 
-# A program that fails or prints no help leaves the pages as they were. CDPATH leads nowhere.
-mkdir -p "$room/elsewhere/bindings" "$room/elsewhere/docs"
+# A program that fails or prints no help leaves the pages as they were.
 lay_out() {
-    (cd .. && CDPATH=$room/elsewhere bindings/pages.sh "$1" "$room/pages")
+    ./pages.sh "$1" "$room/pages"
 }
 lay_out "$prefix/bin/aeadkit"
 cp -R "$room/pages" "$room/pages-before"

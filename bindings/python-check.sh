@@ -2,7 +2,6 @@
 # Runs the examples and the tests of the Python package, by an interpreter that finds the package. If it loads the build for AVX2,
 # the tests also run over the default build beside it, which other processors get.
 set -eu
-unset CDPATH
 if [ $# != 1 ]; then
     echo "usage: python-check.sh PYTHON" >&2
     exit 2

@@ -1,7 +1,6 @@
 #!/bin/sh
 # Compares what documents and crates' pages quote with the files that they name.
 set -eu
-unset CDPATH
 if [ $# -gt 1 ]; then
     echo "usage: quotations.sh [REPOSITORY]
 A quotation is a block in a fence, or indented by 4, under a line that ends in 'From \`PATH\`:'. Its lines stand one after

@@ -4,7 +4,6 @@
 # The answer has to be 'aeadkit: OutOfMemory' with status 4, and OUT must not exist, until no request of a run is refused;
 # then the answer has to be the right one. It prints for each command how many requests were refused. It needs cc.
 set -eu
-unset CDPATH
 if [ $# != 1 ]; then
     echo "usage: refuse.sh PROGRAM" >&2
     exit 2

@@ -1,7 +1,6 @@
 #!/bin/sh
 # Builds the crate that packages.sh laid out as users do, and runs its examples, its tests and the example of its page.
 set -eu
-unset CDPATH
 if [ $# != 1 ]; then
     echo "usage: rust-check.sh PREFIX" >&2
     exit 2

@@ -2,7 +2,6 @@
 # Runs the built program over standard streams, pipes and several names of one file: streams.sh PROGRAM
 # They belong to the system, and neither contracts nor tests speak of them. It prints one line.
 set -eu
-unset CDPATH
 if [ $# != 1 ]; then
     echo "usage: streams.sh PROGRAM" >&2
     exit 2

@@ -1,7 +1,6 @@
 #!/bin/sh
 # Installs the JavaScript package that wasm.sh laid out in a fresh folder, and runs its example and tests there.
 set -eu
-unset CDPATH
 if [ $# != 1 ]; then
     echo "usage: wasm-check.sh PREFIX" >&2
     exit 2

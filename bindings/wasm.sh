@@ -2,7 +2,6 @@
 # Proves the library, builds it as a WebAssembly module and lays out the JavaScript package, whose example it runs if node is
 # there.
 set -eu
-unset CDPATH
 if [ $# -lt 2 ]; then
     echo "usage: wasm.sh REPOSITORY PREFIX [rattle's flags]
   PREFIX   gets share/aeadkit/javascript, a package for npm. Its module imports nothing; it wants a host with
