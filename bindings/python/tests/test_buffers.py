@@ -275,28 +275,6 @@ class Buffers(unittest.TestCase):
             self.assertRaises(ValueError, Key(SUITE, KEY).sealer(NONCE).update, dead)
         self.assertRaises(TypeError, Key(SUITE, KEY).seal, NONCE, collections.deque(TEXT))
 
-    @unittest.skipUnless(sys.version_info >= (3, 12), "no __buffer__ in Python")
-    def test_a_piece_that_calls_the_sealer(self):
-        """The bytes of a piece are asked for before the lock is taken, and once."""
-        sealer, asked = Sealer(SUITE, KEY, NONCE), []
-
-        class Piece:
-            def __buffer__(self, flags):
-                asked.append(sealer.update(b"first"))
-                return memoryview(b"second")
-
-        made = sealer.update(Piece())
-        self.assertEqual(asked[0] + made + sealer.finish(), aeadkit.seal(SUITE, KEY, NONCE, b"firstsecond"))
-        self.assertEqual(len(asked), 1)
-
-        class Failing:
-            def __buffer__(self, flags):
-                raise KeyError("no bytes")
-
-        sealer = Sealer(SUITE, KEY, NONCE)
-        self.assertRaises(KeyError, sealer.update, Failing())
-        self.assertEqual(sealer.update(TEXT) + sealer.finish(), aeadkit.seal(SUITE, KEY, NONCE, TEXT))
-
 
 if __name__ == "__main__":
     unittest.main()

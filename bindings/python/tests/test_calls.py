@@ -2,7 +2,6 @@
 
 import builtins
 import doctest
-import gc
 import inspect
 import pickle
 import subprocess
@@ -378,39 +377,6 @@ class Closing(unittest.TestCase):
         opener.check(SEALED[:-16])
         opener.begin_second()
         self.assertEqual(opener.update(SEALED[:-16]), TEXT)
-
-    def test_a_finalizer_in_a_cycle(self):
-        """It may run after the finalizer of the struct, which wipes it. Then its call is refused."""
-        made = []
-
-        class Last:
-            def __del__(self):
-                try:
-                    made.append(self.call())
-                except aeadkit.NotBegun as fault:
-                    made.append(type(fault))
-
-        def seal(key):
-            return key.seal(NONCE, TEXT, aad=b"aad")
-
-        def finish(sealer):
-            return sealer.update(TEXT) + sealer.finish()
-
-        for begin, use, expected in [(lambda: Key(Suite.AES_256_GCM, KEY), seal, SEALED),
-                                     (lambda: Sealer(Suite.AES_256_GCM, KEY, NONCE, aad=b"aad"), finish, SEALED)]:
-            # one of the two was there before the state, and one comes after it
-            first, state, second = Last(), begin(), Last()
-            state.circle = [first, second, state]
-            memory = state._struct._memory
-            for last in (first, second):
-                last.call = lambda use=use, state=state: use(state)
-            del first, state, second, last
-            gc.collect()
-            gc.collect()
-            self.assertEqual(len(made), 2)
-            self.assertLessEqual(set(made), {expected, aeadkit.NotBegun})
-            self.assertEqual(bytes(memory), bytes(len(bytes(memory))))
-            made.clear()
 
     def test_an_exception_keeps_no_key(self):
         """A struct is wiped with its object, even if a traceback holds the frames of a refused call."""
