@@ -612,8 +612,8 @@ int main(int argc, char **argv) {
             size_t n = kind.texts[i], a = aad_lengths[j];
             /* No second pass can have another text if there is none. */
             if (n == 0 && refused && (is("siv_finish") || is("opener_finish"))) continue;
-            /* A trace is long: the longest text is left out, and other associated data but for a few lengths. */
-            if (!tainting && (n > 4096 || (j > 0 && n != 17 && n != 1024))) continue;
+            /* Other associated data with some texts only; and a trace of the longest text would be too long. */
+            if ((j > 0 && n != 17 && n != 1024) || (n > 4096 && !tainting)) continue;
             ct_group = 1;
             if (tainting) taint(&kind, n, a, i);
             else trace(&kind, n, a);
