@@ -1,0 +1,82 @@
+/* A library to put before the C library of the program `aeadkit`, for constant-time.sh. It makes secret, under memcheck, the values
+   that the program decodes of its command line and the text that it reads, and sets the marks of a trace (marks.h).
+
+   SECRETS has the bytes of the secret values in the order in which they are decoded, in hexadecimal and with spaces between. A
+   value is decoded once the next request for memory comes, and from the first one on the program is looked at. READS=secret makes the bytes of files secret.
+   GROUP=LENGTH begins a group of runs over texts of this length; each later run of it has GROUP=-. The variables of all have the
+   same length, since the stack begins below them. */
+#include "marks.h"
+#include <dlfcn.h>
+#include <stdlib.h>
+#include <string.h>
+#include <unistd.h>
+#include <valgrind/memcheck.h>
+
+enum { MOST_SECRETS = 2, MOST_BYTES = 2048 };
+
+static struct { unsigned char bytes[MOST_BYTES]; size_t length; } secrets[MOST_SECRETS];
+static size_t secret_count, found, last_size;
+static void *last;
+static int reads_secrets;
+
+__attribute__((constructor)) static void begin(void) {
+    if (!RUNNING_ON_VALGRIND) return; /* but one of the programs that start it */
+    for (const char *digits = getenv("SECRETS"); digits && *digits; secret_count++) {
+        for (unsigned byte; sscanf(digits, "%2x", &byte) == 1 && *digits != ' '; digits += 2)
+            secrets[secret_count].bytes[secrets[secret_count].length++] = (unsigned char)byte;
+        digits += *digits == ' ';
+    }
+    reads_secrets = getenv("READS") != NULL;
+    VALGRIND_DISABLE_ERROR_REPORTING;
+    print_places(stderr);
+    const char *length = getenv("GROUP");
+    if (length && *length != '-') {
+        fprintf(stderr, "group %s 0 0\n", length);
+        ct_group = 1;
+    }
+    ct_secret = 1;
+}
+
+__attribute__((destructor)) static void end(void) { ct_off = 1; }
+
+/* Looks whether the block that was asked for last has the next value, decoded. */
+static void look(void) {
+    if (!last || found == secret_count || last_size != secrets[found].length) return;
+    VALGRIND_DISABLE_ERROR_REPORTING;
+    if (!memcmp(last, secrets[found].bytes, last_size)) {
+        (void)VALGRIND_MAKE_MEM_UNDEFINED(last, last_size);
+        if (found++ == 0) VALGRIND_ENABLE_ERROR_REPORTING;
+        ct_on = 1;
+    }
+    VALGRIND_ENABLE_ERROR_REPORTING;
+}
+
+void *malloc(size_t size) {
+    static void *(*next)(size_t);
+    if (!next) *(void **)&next = dlsym(RTLD_NEXT, "malloc");
+    look();
+    last_size = size;
+    return last = next(size);
+}
+
+void free(void *block) {
+    static void (*next)(void *);
+    if (!next) *(void **)&next = dlsym(RTLD_NEXT, "free");
+    if (block == last) last = NULL;
+    next(block);
+}
+
+ssize_t read(int file, void *to, size_t length) {
+    static ssize_t (*next)(int, void *, size_t);
+    if (!next) *(void **)&next = dlsym(RTLD_NEXT, "read");
+    ssize_t count = next(file, to, length);
+    if (reads_secrets && count > 0) (void)VALGRIND_MAKE_MEM_UNDEFINED(to, count);
+    return count;
+}
+
+ssize_t write(int file, const void *from, size_t length) {
+    static ssize_t (*next)(int, const void *, size_t);
+    if (!next) *(void **)&next = dlsym(RTLD_NEXT, "write");
+    (void)VALGRIND_MAKE_MEM_DEFINED(from, length);
+    return next(file, from, length);
+}

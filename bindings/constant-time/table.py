@@ -1,0 +1,394 @@
+"""Runs the cells of calls.c under valgrind for constant-time.sh, joins what memcheck and the traces say, and writes the table.
+
+A site is an instruction, of which one of these is said:
+  branch    a conditional jump, or a jump to an address, that depends on a secret: memcheck reports it, or traces part there
+  address   an instruction that reads or writes at an address that depends on a secret: the same
+  verdict   a branch that memcheck reports, at which the traces of all secrets agree as long as the verdict is the same, which
+            goes elsewhere when the verdict is another one, and which verdicts.txt names. The verdict is public.
+"""
+import argparse
+import concurrent.futures
+import os
+import random
+import re
+import subprocess
+import sys
+
+NAMES = {"1": "ChaCha20-Poly1305", "2": "AES-128-GCM", "3": "AES-192-GCM", "4": "AES-256-GCM", "5": "AES-128-GCM-SIV",
+         "6": "AES-256-GCM-SIV", "16": "key wrap, AES-128", "24": "key wrap, AES-192", "32": "key wrap, AES-256"}
+KEYS = {"1": 32, "2": 16, "3": 24, "4": 32, "5": 16, "6": 32, "16": 16, "24": 24, "32": 32}
+FILE_COMMANDS = [("seal-file", "ok"), ("open-file", "ok"), ("open-file", "no")]
+WRAP_COMMANDS = [(command + pad, variant) for pad in ("", " --pad")
+                 for command, variant in (("wrap", "ok"), ("unwrap", "ok"), ("unwrap", "no"))]
+# Under --short all calls of one suite of each construction, and of the others these. AES-192 has a schedule of its own.
+SHORT_SUITES = ("1", "2", "6", "16")
+SHORT_CALLS = r"seal_in_place|open_in_place|key_init|seal_with|wrap|unwrap"
+# Only these calls return a verdict: no other call has a status that depends on a secret.
+VERDICTS = r"open(_in_place)?(_with)?|(sealer|opener|siv)_resume|opener_begin_second|opener_finish|siv_finish|unwrap(_padded)?"
+# More bytes than a stretch of code has that valgrind translates at once.
+STRETCH = 800
+# Instructions whose time depends on their operands on some processors. Neither run sees that.
+VARIABLE = re.compile(r"v?(i?div[bwlq]?|pdep|pext|[sd]?div[sp][sd]|sqrt[sp][sd]|p?gather\w+|pcmp[ei]str\w) ")
+# `bt` of registers: valgrind computes it by way of memory, and reports the number of the bit as an address.
+BIT_OF_REGISTER = re.compile(r"bt[scr]?[lqw]? +%\w+,%\w+$")
+
+options = argparse.ArgumentParser()
+for option in ("room", "builds", "suites", "calls", "claimed", "jobs", "verdicts", "lengths", "write"):
+    options.add_argument("--" + option)
+options = options.parse_args()
+environment = dict(os.environ, LD_BIND_NOW="1")
+
+
+def run(*words, **variables):
+    """Runs words and returns all that was printed."""
+    return subprocess.run(words, env=dict(environment, **variables), stdout=subprocess.PIPE, stderr=subprocess.STDOUT, text=True)
+
+
+class Objects:
+    """The objects of a process, to which addresses belong, as it prints them itself. A place is an object and an address in it."""
+
+    def __init__(self, output):
+        rows = [line.split(maxsplit=4) for line in output.splitlines() if line.startswith("object ")]
+        self.rows = [(int(low, 16), int(high, 16), int(bias, 16), re.sub(r"(\.so)\.[\d.]+$", r"\1", os.path.basename(name)))
+                     for _, low, high, bias, name in rows]
+
+    def place(self, address):
+        for low, high, bias, name in self.rows:
+            if low <= address < high:
+                return name, address - bias
+        return "the stack" if address > 0x1f00000000 else "other memory", address
+
+    def address(self, place):
+        return next((bias + place[1] for _, _, bias, name in self.rows if name == place[0]), None)
+
+
+class Target:
+    """A program of one build that runs under valgrind: calls.c over the library, or aeadkit itself behind program.c."""
+
+    def __init__(self, build, path, words, **variables):
+        self.build, self.path = build, path
+        # Under lackey the objects lie elsewhere than under memcheck.
+        output = run("valgrind", "-q", "--tool=lackey", "--log-file=/dev/null", path, *words, **variables).stdout
+        self.traced = Objects(output)
+        self.marks = re.search("marks (.*)", output)[1].split()
+        self.code = {}
+        for name in {"libaeadkit.so", os.path.basename(path)} & {row[3] for row in self.traced.rows}:
+            for line in run("objdump", "-d", "--no-show-raw-insn", f"{os.path.dirname(path)}/{name}").stdout.splitlines():
+                if line.endswith(">:"):
+                    function = line[line.index("<") + 1:-2]
+                elif ":\t" in line:
+                    at, instruction = line.split(":\t", 1)
+                    self.code[name, int(at, 16)] = function, re.sub(r"\s+", " ", instruction.split("#")[0]).strip()
+
+    def where(self, place):
+        """The function and the instruction that stand at a place."""
+        return self.code.get(place, (place[0], "?"))
+
+
+class Site:
+    def __init__(self):
+        self.taint = self.trace = False
+        self.low = self.high = None
+
+
+class Cell:
+    """One call of one suite in one build, and what both ways of looking say of it."""
+
+    def __init__(self, target, suite, call, variant):
+        self.target, self.suite, self.call, self.variant = target, suite, call, variant
+        self.label = f"{target.build}: suite {suite}, {call} {variant}"
+        self.sites, self.ran, self.went, self.faults = {}, set(), {}, []
+        self.runs = self.instructions = self.undefined = 0
+
+    def commands(self, way):
+        """The runs of the call: their words and their variables."""
+        if self.call.startswith("aeadkit "):
+            return program_runs(self, way)
+        return [([self.target.path, way, self.suite, self.call, self.variant, options.lengths], {})]
+
+    def status(self):
+        """The status that each run has to end with."""
+        return 1 if self.variant == "no" and self.call.startswith("aeadkit ") else 0
+
+    def reports(self, more):
+        """Returns what memcheck reports: places and kinds."""
+        found = set()
+        for words, variables in self.commands("taint"):
+            log = f"{options.room}/{self.target.build}/{self.suite}.{self.call}.{self.variant}.log"
+            taint = run("valgrind", "-q", "--num-callers=1", "--error-limit=no", "--leak-check=no", f"--log-file={log}", more,
+                        "--soname-synonyms=somalloc=nouserintercepts", *words, **variables)
+            if taint.returncode != self.status():
+                self.faults.append(f"under memcheck the status is {taint.returncode}: {taint.stdout.splitlines()[-1]}")
+            self.undefined += sum(int(line.split()[3]) for line in taint.stdout.splitlines() if line.startswith("group "))
+            objects, kind = Objects(taint.stdout), None
+            with open(log, encoding="utf-8") as lines:
+                for line in lines:
+                    line = re.sub(r"^==\d+== ?", "", line.rstrip())
+                    row = re.match(r"   at 0x([0-9A-F]+):", line)
+                    if line.startswith("Conditional jump or move"):
+                        kind = "branch"
+                    elif line.startswith("Use of uninitialised value"):
+                        kind = "address"
+                    elif row and kind:
+                        place = objects.place(int(row[1], 16))
+                        if not BIT_OF_REGISTER.match(self.target.where(place)[1]):
+                            found.add((place, kind))
+                        kind = None
+                    elif line and "More than 100 errors" not in line and "will still be recorded" not in line:
+                        self.faults.append(f"memcheck: {line}")
+        return found
+
+    def taint(self):
+        # Within a stretch of code that valgrind translates at once memcheck reports a value once, and takes it as public from
+        # then on. So a stretch is one instruction in the first run. In the second it is a whole one, since over a stretch memcheck
+        # knows which of the flags a jump tests. A jump that only the first run reports counts if a site stands shortly before it.
+        single = self.reports("--vex-guest-max-insns=1")
+        whole = self.reports("--vex-guest-chase=no")
+        before = [place for place, kind in single | whole if kind == "address" or (place, kind) in whole]
+        for place, kind in single | whole:
+            near = any(name == place[0] and 0 < place[1] - at < STRETCH for name, at in before)
+            if kind == "address" or (place, kind) in whole or near:
+                self.sites.setdefault((place, kind), Site()).taint = True
+
+    def trace(self):
+        traced = self.target.traced
+        jumps = [f"{traced.address(place):x}" for place, kind in self.sites if kind == "branch" and traced.address(place)]
+        read, write = os.pipe()
+        cut = subprocess.Popen([f"{options.room}/traces", *self.target.marks, *jumps], stdin=read, stdout=subprocess.PIPE,
+                               text=True)
+        os.close(read)
+        lengths = []
+        for words, variables in self.commands("trace"):
+            lackey = subprocess.run(["valgrind", "--tool=lackey", "--trace-mem=yes", f"--log-fd={write}", *words], pass_fds=[write],
+                                    env=dict(environment, **variables), stdout=subprocess.PIPE, stderr=subprocess.STDOUT, text=True)
+            if lackey.returncode != self.status():
+                self.faults.append(f"under lackey the status is {lackey.returncode}: {lackey.stdout.splitlines()[-1]}")
+            lengths += [tuple(line.split()[1:3]) for line in lackey.stdout.splitlines() if line.startswith("group ")]
+        os.close(write)
+        output = cut.communicate()[0]
+        for line in output.splitlines():
+            kind, *row = line.split()
+            if kind == "site":
+                place = traced.place(int(row[0], 16))
+                if not BIT_OF_REGISTER.match(self.target.where(place)[1]):
+                    site = self.sites.setdefault((place, row[1]), Site())
+                    site.trace, site.low, site.high = True, int(row[2], 16), int(row[3], 16)
+            elif kind == "ran":
+                self.ran.add(traced.place(int(row[0], 16)))
+            elif kind == "went" and int(row[3]):
+                self.went.setdefault(traced.place(int(row[0], 16)), {})[lengths[int(row[1])]] = row[2:]
+            elif kind == "runs":
+                self.runs, self.instructions = map(int, row)
+            elif kind == "lost":
+                self.faults.append("runs part and do not come together")
+        if not self.runs:
+            self.faults.append("nothing was traced")
+
+    def look(self):
+        self.taint()
+        self.trace()
+        return self
+
+    def follows_verdict(self, place, other):
+        """Whether a branch goes another way at another verdict: another status, or another length of the text of a wrapping."""
+        mine, its = self.went.get(place, {}), other.went.get(place, {}) if other else {}
+        if any(way != its[lengths] for lengths, way in mine.items() if lengths in its):
+            return True
+        return self.call in ("unwrap_padded", "aeadkit unwrap --pad") and any(
+            way != of for (n, _), way in mine.items() for (m, _), of in mine.items() if (int(n) + 7) // 8 == (int(m) + 7) // 8)
+
+
+def program_runs(cell, way):
+    """The runs of a command of aeadkit: over texts of several lengths, and in a trace with several secrets."""
+    _, command, *pad = cell.call.split()
+    path = cell.target.path
+    room = f"{os.path.dirname(path)}/{cell.suite}.{cell.call}.{cell.variant}".replace(" ", ".")
+    lengths = (9, 16, 20) if pad else (24, 40) if int(cell.suite) > 6 else (17, 300, 5000)
+    for length in lengths if options.lengths == "whole" else lengths[:2]:
+        for secret in range(1 if way == "taint" else 3):
+            draw = random.Random(f"{cell.suite} {length} {secret}").randbytes
+            key, text = draw(KEYS[cell.suite]).hex(), draw(length)
+            variables = dict(LD_PRELOAD=f"{options.room}/program.so", SECRETS=key, GROUP="-----" if secret else f"{length:05}")
+            if int(cell.suite) > 6:
+                words = ["--key", key, *pad, "--text", text.hex()]
+                if command == "wrap":
+                    variables["SECRETS"] += " " + text.hex()
+                else:
+                    wrapped = bytes.fromhex(run(path, "wrap", *words).stdout)
+                    words[-2:] = ["--sealed", forged(cell, wrapped, secret).hex()]
+            else:
+                words = ["--suite", NAMES[cell.suite].lower(), "--key", key, "--nonce", "01" * 12, "--aad", "02" * 5,
+                         "--in", f"{room}.in", "--out", f"{room}.out"]
+                write_file(f"{room}.in", text)
+                if command == "seal-file":
+                    variables["READS"] = "secret"
+                else:
+                    run(path, "seal-file", *words)
+                    with open(f"{room}.out", "rb") as sealed:
+                        write_file(f"{room}.in", forged(cell, sealed.read(), secret))
+                    os.remove(f"{room}.out")
+            yield [path, command, *words], variables
+
+
+def forged(cell, sealed, secret):
+    """Sealed bytes, where the cell wants a refusal with a byte of the tag changed, for each secret another one."""
+    at = len(sealed) - (1, 16, 8)[secret]
+    return sealed if cell.variant == "ok" else sealed[:at] + bytes([sealed[at] ^ 1]) + sealed[at + 1:]
+
+
+def write_file(path, content):
+    with open(path, "wb") as out:
+        out.write(content)
+
+
+def lines_of(path):
+    """Rows 'CALLS FUNCTION # REASON'."""
+    with open(path, encoding="utf-8") as lines:
+        rows = [line.partition("#") for line in lines if line.strip() and not line.startswith("#")]
+    return [(*words.split(), reason.strip()) for words, _, reason in rows]
+
+
+def claims(cell):
+    """Whether the cell is claimed to have no site but verdicts: a word of --claimed is SUITE or SUITE:CALLS."""
+    words = [word.partition(":") for word in options.claimed.split()]
+    return any(suite == cell.suite and re.fullmatch(calls or ".*", cell.call) for suite, _, calls in words)
+
+
+def all_cells(builds):
+    """The cells to look at, and the numbers of sites that known code has. It is run in one build, since it is the same in both."""
+    cells, known = {}, {}
+    for build in builds:
+        folder = f"{options.room}/{build}"
+        calls = Target(build, f"{folder}/calls", ["trace", "0", "-", "ok", "short"])
+        rows = [(calls, *line.split()) for line in run(calls.path, "cells").stdout.splitlines()]
+        if os.path.exists(f"{folder}/aeadkit"):
+            program = Target(build, f"{folder}/aeadkit", ["--version"], LD_PRELOAD=f"{options.room}/program.so")
+            rows += [(program, suite, f"aeadkit {command}", variant) for suite in NAMES
+                     for command, variant in (WRAP_COMMANDS if int(suite) > 6 else FILE_COMMANDS)]
+        for target, suite, call, variant, *numbers in rows:
+            if suite == "0":
+                known[call] = [int(number) for number in numbers]
+            asked = suite in options.suites.split() and re.fullmatch(options.calls, call) and (
+                options.lengths == "whole" or suite in SHORT_SUITES or re.fullmatch(SHORT_CALLS, call))
+            if asked or suite == "0" and build == builds[0]:
+                cells[build, suite, call, variant] = Cell(target, suite, call, variant)
+    return cells, known
+
+
+def judge(cells, known):
+    """Returns the counts of each call, the places, what fails, and the lines of verdicts.txt that no site needed."""
+    failures, places, counts, verdicts = [], {}, {}, lines_of(options.verdicts)
+    unused = list(verdicts)
+    for (name, suite, call, variant), cell in cells.items():
+        failures += [f"{cell.label}: {fault}" for fault in cell.faults]
+        if suite == "0":
+            found = [sum(1 for (_, kind), site in cell.sites.items() if kind == of and getattr(site, by))
+                     for by in ("taint", "trace") for of in ("branch", "address")]
+            if found != known[call]:
+                failures.append(f"known code {call}: {found} in the place of {known[call]}")
+            continue
+        if cell.undefined and not re.fullmatch(VERDICTS, call):
+            failures.append(f"{cell.label}: the status depends on a secret")
+        count = counts.setdefault((suite, call, variant), {})[name] = {"branch": 0, "address": 0, "verdict": 0}
+        other = cells.get((name, suite, call, "no" if variant == "ok" else "ok"))
+        for (place, kind), site in cell.sites.items():
+            function, instruction = cell.target.where(place)
+            if kind == "branch" and not site.trace and cell.follows_verdict(place, other):
+                named = [row for row in verdicts if re.fullmatch(row[0], call) and re.fullmatch(row[1], function)]
+                unused = [row for row in unused if row not in named]
+                kind = "verdict" if named else "branch"
+            count[kind] += 1
+            places.setdefault((function, kind), {}).setdefault((name, place), []).append((cell, site))
+            if kind != "verdict" and claims(cell):
+                failures.append(f"{cell.label}: {kind} at {function}, {place[0]}+{place[1]:#x}: {instruction}")
+    return counts, places, failures, unused
+
+
+def markdown(rows):
+    """The lines of a table, the first of which is its head."""
+    for number, row in enumerate(rows):
+        yield "| " + " | ".join(row) + " |"
+        if number == 0:
+            yield "|---" * len(row) + "|"
+
+
+def some(names):
+    names = sorted(names)
+    return ", ".join(names[:4]) + (f" and {len(names) - 4} others" if len(names) > 4 else "")
+
+
+def spans(at):
+    """Which objects the addresses of places belong to, and how far apart they are at most in traces."""
+    found = {}
+    for cell, site in (row for of in at.values() for row in of):
+        if site.trace:
+            name = cell.target.traced.place(site.low)[0]
+            found[name] = max(found.get(name, 0), site.high - site.low)
+    return ", ".join(f"{name} up to {apart} bytes apart" for name, apart in sorted(found.items()) if apart)
+
+
+def table(builds, counts, places):
+    """The lines of the table: the numbers of each call, the functions that have a site, and the instructions."""
+    yield "# Instructions of the built library that depend on a secret"
+    yield ""
+    rows = [["suite", "call"] + [f"{build}: {what}" for build in builds for what in ("branches", "addresses", "verdicts")]]
+    for (suite, call, variant), of in sorted(counts.items(), key=lambda row: int(row[0][0])):
+        rows.append([NAMES[suite], call + ("" if variant == "ok" else ", refused")]
+                    + [str(of[build][kind]) for build in builds for kind in ("branch", "address", "verdict")])
+    yield from markdown(rows)
+    yield ""
+    rows = [["function", "what"] + builds + ["suites", "calls", "reads or writes"]]
+    instructions = [["build", "place", "instruction", "what", "found by"]]
+    for (function, kind), at in sorted(places.items(), key=lambda row: (row[0][1], row[0][0])):
+        cells = [cell for of in at.values() for cell, _ in of]
+        rows.append([f"`{function}`", kind] + [str(sum(1 for name, _ in at if name == build)) for build in builds]
+                    + [", ".join(sorted({cell.suite for cell in cells}, key=int)), some({cell.call for cell in cells}), spans(at)])
+        for (name, place), of in sorted(at.items()):
+            by = [way for way in ("taint", "trace") if any(getattr(site, way) for _, site in of)]
+            instruction = of[0][0].target.where(place)[1]
+            instructions.append([name, f"`{function}`, {place[0]}+{place[1]:#x}", f"`{instruction}`", kind, ", ".join(by)])
+    yield from markdown(rows)
+    yield ""
+    yield from markdown(instructions)
+
+
+def summary(target, cells):
+    """What can be said of a build's library beside its sites."""
+    code = {at: of for at, of in target.code.items() if at[0] == "libaeadkit.so"}
+    variable = {function for function, instruction in code.values() if VARIABLE.match(instruction + " ")}
+    yield f"{target.build}: divisions, square roots, gathers, pdep and pext: {', '.join(sorted(variable)) or 'none'}"
+    ran = set().union(*[cell.ran for cell in cells])
+    jumps = {at: function for at, (function, instruction) in code.items() if re.match(r"j[^m]", instruction)}
+    never = set(jumps.values()) - {code[at][0] for at in ran if at in code}
+    yield f"{target.build}: {sum(1 for at in jumps if at in ran)} of {len(jumps)} conditional jumps of the library ran in a trace"
+    yield f"{target.build}: functions with jumps that did not run: {', '.join(sorted(never)) or 'none'}"
+
+
+def main():
+    builds = options.builds.split()
+    cells, known = all_cells(builds)
+    with concurrent.futures.ThreadPoolExecutor(int(options.jobs)) as pool:
+        list(pool.map(Cell.look, cells.values()))
+    counts, places, failures, unused = judge(cells, known)
+    lines = [*table(builds, counts, places), ""]
+    for target in dict.fromkeys(cell.target for cell in cells.values()):
+        if target.path.endswith("/calls"):
+            lines += summary(target, [cell for cell in cells.values() if cell.target is target])
+    if options.lengths == "whole":
+        lines += [f"not needed here: {' '.join(row[:2])} of verdicts.txt" for row in unused]
+    if options.write:
+        with open(options.write, "w", encoding="utf-8") as out:
+            out.writelines(line + "\n" for line in lines)
+    else:
+        print(*lines, sep="\n")
+    for failure in failures:
+        print("FAILED " + failure)
+    sites = [kind for _, kind in places]
+    print(f"{len(cells) - len(known)} cells, {sum(cell.runs for cell in cells.values())} traced runs of "
+          f"{sum(cell.instructions for cell in cells.values())} instructions; "
+          f"{sites.count('branch') + sites.count('address')} functions with sites, {sites.count('verdict')} with verdicts; "
+          f"known code: {len(known)} functions; {len(failures)} failures")
+    return 1 if failures else 0
+
+
+sys.exit(main())
