@@ -186,6 +186,18 @@ pub struct PlainMultiples {
 }
 
 impl PlainMultiples {
+    ghost use Rattle.gf128.specs.Code.PlainMultiples.{no_multiples};
+
+    /// All zeros, which are the multiples of 0.
+    pub fn zeros() -> PlainMultiples
+        ensures { result ≡ no_multiples }
+    {
+        PlainMultiples {
+            high: [0; 32],
+            low: [0; 32],
+        }
+    }
+
     // The multiple for `byte`: one entry from each table, XORed.
     #[inline(always)]
     pub(crate) fn sum_at(&self, byte: u8) -> Lanes

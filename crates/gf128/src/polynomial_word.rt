@@ -76,15 +76,10 @@ pub(crate) fn reversed_block_of(word: u128) -> Block
     Block::new(le_bytes(word))
 }
 
-// The word times x.
+// The word times x, with no branch: the bit that falls out is a factor.
 #[inline(always)]
 pub(crate) fn times_x(word: u128) -> u128
     ensures { result ≡ times_x word }
 {
-    let half = word >> 1;
-    if word & 1 == 1 {
-        half ^ REDUCTION
-    } else {
-        half
-    }
+    (word >> 1) ^ (word % 2 * REDUCTION)
 }
