@@ -273,15 +273,17 @@ two_entries h m (suc (suc zero)) l = rw (one-mul h, zero-mul m) (sym (xor_zero_r
 two_entries h m (suc (suc (suc zero))) l = rw (one-mul h, one-mul m) refl
 two_entries h m (suc (suc (suc (suc j)))) l = absurd (omega arith)
 
+-- the upper bit of j times h, XORed with the lower bit times m, is the product of the two bits of j and h, if m is x times h
+pub two_bits_by : (h m j : ℕ) → IsMoved 1 h m → j < 4 → IsBitsProduct 2 j h (bit_xor (j / 2 * h) (j % 2 * m))
+two_bits_by h m j moved l =
+    joined 1 1 j h m (j / 2 * h) (j % 2 * m) moved (product_bit (j / 2) h (omega arith))
+    (product_low 1 (j / 2) (j % 2) j m (j % 2 * m) (omega arith)
+    (product_bit (j % 2) m (omega arith)))
+
 -- the entry at place j of 0, m, h and their XOR is the product of the two bits of j and h, if m is x times h
 pub two_bits : (h m j : ℕ) → IsMoved 1 h m → j < 4
     → IsBitsProduct 2 j h (get_or (0 ∷ m ∷ h ∷ bit_xor h m ∷ []) j 0)
-two_bits h m j moved l =
-    let by : IsBitsProduct 2 j h (bit_xor (j / 2 * h) (j % 2 * m)) =
-    joined 1 1 j h m (j / 2 * h) (j % 2 * m) moved (product_bit (j / 2) h (omega arith))
-    (product_low 1 (j / 2) (j % 2) j m (j % 2 * m) (omega arith)
-    (product_bit (j % 2) m (omega arith))) in
-    rw (two_entries h m j l) by
+two_bits h m j moved l = rw (two_entries h m j l) (two_bits_by h m j moved l)
 
 -- the product of all 128 bits of x and the word h is the product of the words
 pub word_product_is : (x h z : ℕ) → IsBitsProduct 128 x h z → IsWordProduct x (to_be_bytes w128 h) z

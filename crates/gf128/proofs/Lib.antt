@@ -10,3 +10,8 @@ mod Chains
 mod FourBlocks
 mod FourProducts
 mod Vectors
+mod Rows
+mod Moves
+mod Placings
+mod LookUps
+mod Entries

@@ -2,15 +2,16 @@
 
 ghost use Rattle.std.specs.Prelude.{◌≡◌, ◌+◌, ◌*◌, ◌/◌, ◌%◌, ◌^◌, ◌<◌, bit_xor};
 ghost use Rattle.octets.specs.Bytes.{IsBlock, le};
+ghost use Rattle.gf128.specs.Code.Words.{lanes_up, lanes_down};
 
 use octets::le_bytes;
 use std::simd::prelude::*;
-use std::simd::u8x16;
+use std::simd::{u8x16, u64x2};
 
 // A word as the vector of its bytes, the least significant one first.
 #[derive(Drop, Clone, Copy)]
 pub(crate) struct Lanes {
-    bytes: u8x16,
+    pub(crate) bytes: u8x16,
     ghost is_block: { IsBlock bytes },
 }
 
@@ -40,6 +41,28 @@ impl Lanes {
     {
         Lanes {
             bytes: self.bytes ^ other.bytes,
+        }
+    }
+
+    // The word with both its halves shifted up.
+    #[inline(always)]
+    pub(crate) fn up(self, count: u64) -> Lanes
+        requires { count < 64 }
+        ensures { le result.bytes ≡ lanes_up count (le self.bytes) }
+    {
+        Lanes {
+            bytes: (u64x2::from_le_bytes(self.bytes) << u64x2::splat(count)).to_le_bytes(),
+        }
+    }
+
+    // The word with both its halves shifted down.
+    #[inline(always)]
+    pub(crate) fn down(self, count: u64) -> Lanes
+        requires { count < 64 }
+        ensures { le result.bytes ≡ lanes_down count (le self.bytes) }
+    {
+        Lanes {
+            bytes: (u64x2::from_le_bytes(self.bytes) >> u64x2::splat(count)).to_le_bytes(),
         }
     }
 

@@ -23,9 +23,12 @@ mod hash_order;
 mod keyed;
 mod lanes;
 mod multiples;
+mod nibbles;
+mod placed;
 mod polynomial_word;
 mod polyval;
 mod table_mul;
+mod tables;
 mod uses;
 mod wide_mul;
 
@@ -34,11 +37,11 @@ pub use ghash::{Ghash, GhashOrder, ghash_is_the_only};
 pub use hash::BlockHash;
 pub use hash_order::HashOrder;
 pub use keyed::{Keyed128, Multiply};
-pub use multiples::PlainMultiples;
 pub use polyval::{
     Polyval, PolyvalOrder, dot_is_the_only, polyval_by_ghash, polyval_is_the_only, reversed_mul_x,
 };
 pub use table_mul::{PlainMul, TableMul};
+pub use tables::PlainMultiples;
 pub use wide_mul::WideMul;
 
 /// The multiplier to take if the length of the text is not known: its table is small and quickly made.

@@ -8,13 +8,11 @@ ghost use Rattle.octets.specs.Polynomial.{product};
 ghost use Rattle.gf128.specs.declared.lanes.Lanes.{Lanes};
 ghost use Rattle.gf128.specs.Ghash.{IsProduct};
 ghost use Rattle.gf128.specs.Code.Words.{of_bits, of_word, IsBitsProduct, IsMoved, IsSpread, IsWordProduct};
-ghost use Rattle.gf128.specs.Code.Words.{AreMultiples, stored_number};
+ghost use Rattle.gf128.specs.Code.Words.{AreMultiples};
 
 use crate::chain::Chain;
 use crate::lanes::Lanes;
-use crate::polynomial_word::{
-    block_of, bytes_of, high_half, low_half, of_halves, times_x, word_of,
-};
+use crate::polynomial_word::{block_of, bytes_of, high_half, low_half, times_x, word_of};
 use octets::Block;
 
 // Multiplies a word by x^2.
@@ -28,7 +26,7 @@ fn times_x2(word: u128) -> u128
 
 // Multiplies a word by x^4.
 #[inline(always)]
-fn times_x4(word: u128) -> u128
+pub(crate) fn times_x4(word: u128) -> u128
     ensures { IsMoved 4 word result }
 {
     let by_x2 = times_x2(word);
@@ -122,18 +120,6 @@ fn sixteen_multiples(word: u128) -> [u128; 16]
     ]
 }
 
-// Splits each number into its low and its high half.
-fn halves_of(numbers: &[u128; 16]) -> [u64; 32]
-    ensures { (j : ℕ) → j < 16 → stored_number result j ≡ slice_index numbers.now j }
-{
-    let mut halves = [0; 32];
-    'numbers: for i in 0..16usize {
-        halves[2 * i] = low_half(numbers[i]);
-        halves[2 * i + 1] = high_half(numbers[i]);
-    }
-    halves
-}
-
 // The multiples of a word by eight bits.
 pub(crate) trait ByteMultiples {
     // The word of which these are the multiples.
@@ -176,40 +162,6 @@ pub(crate) trait ByteMultiples {
     }
 }
 
-/// The 32 multiples of a key as plain numbers, for a caller that stores them. Each is two halves of 64 bits, since C has no
-/// numbers of 128 bits.
-#[repr(C)]
-#[derive(Clone, Copy)]
-pub struct PlainMultiples {
-    high: [u64; 32],
-    low: [u64; 32],
-}
-
-impl PlainMultiples {
-    ghost use Rattle.gf128.specs.Code.PlainMultiples.{no_multiples};
-
-    /// All zeros, which are the multiples of 0.
-    pub fn zeros() -> PlainMultiples
-        ensures { result ≡ no_multiples }
-    {
-        PlainMultiples {
-            high: [0; 32],
-            low: [0; 32],
-        }
-    }
-
-    // The multiple for `byte`: one entry from each table, XORed.
-    #[inline(always)]
-    pub(crate) fn sum_at(&self, byte: u8) -> Lanes
-        ensures { le result.bytes
-            ≡ bit_xor (stored_number self.now.high (byte / 16)) (stored_number self.now.low (byte % 16)) }
-    {
-        let (i, j) = (usize::from(byte / 16) * 2, usize::from(byte % 16) * 2);
-        let high = Lanes::of(of_halves(self.high[i + 1], self.high[i]));
-        high.xor(Lanes::of(of_halves(self.low[j + 1], self.low[j])))
-    }
-}
-
 // The multiples of a word by eight bits, each the sum of two multiples by four bits, of which there are 32. The tables are
 // arrays of numbers and not of vectors: numbers are aligned to 16 bytes, so an XOR can read an entry from memory. An entry of
 // an array of vectors, which may be unaligned, would have to be loaded first.
@@ -231,16 +183,6 @@ impl Multiples32 {
             word,
             high: sixteen_multiples(word),
             low: sixteen_multiples(times_x4(word)),
-        }
-    }
-
-    // Returns the 32 multiples as plain numbers.
-    pub(crate) fn numbers(&self) -> PlainMultiples
-        ensures { AreMultiples (of_word self.now.word) (stored_number result.high) (stored_number result.low) }
-    {
-        PlainMultiples {
-            high: halves_of(&self.high),
-            low: halves_of(&self.low),
         }
     }
 }

@@ -42,14 +42,6 @@ pub(crate) fn low_half(word: u128) -> u64
     (word % 0x1_0000_0000_0000_0000) as u64
 }
 
-// The word of two halves.
-#[inline(always)]
-pub(crate) fn of_halves(high: u64, low: u64) -> u128
-    ensures { result ≡ high * 2 ^ 64 + low }
-{
-    u128::from(high) << 64 | u128::from(low)
-}
-
 // The bytes of a half word, the least significant one first.
 #[inline(always)]
 pub(crate) fn bytes_of(half: u64) -> [u8; 8]
