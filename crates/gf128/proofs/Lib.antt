@@ -6,7 +6,6 @@ mod ByGhash
 mod LaneWords
 mod Folds
 mod BitParts
-mod Chains
 mod FourBlocks
 mod FourProducts
 mod Vectors
@@ -15,3 +14,4 @@ mod Moves
 mod Placings
 mod LookUps
 mod Entries
+mod Powers

@@ -65,18 +65,4 @@ impl Lanes {
             bytes: (u64x2::from_le_bytes(self.bytes) >> u64x2::splat(count)).to_le_bytes(),
         }
     }
-
-    // The word shifted down by one byte, with the lowest byte of `above` as its highest.
-    #[inline(always)]
-    pub(crate) fn down_below(self, above: Lanes) -> Lanes
-        ensures value { le result.bytes ≡ le above.bytes % 256 * 2 ^ 120 + le self.bytes / 256 }
-        ensures small { le self.bytes < 2 ^ 128 }
-    {
-        Lanes {
-            bytes: self.bytes.shuffle(
-                above.bytes,
-                [1, 2, 3, 4, 5, 6, 7, 8, 9, 10, 11, 12, 13, 14, 15, 16],
-            ),
-        }
-    }
 }

@@ -8,10 +8,9 @@ ghost use Rattle.gf128.specs.Code.Words.{of_word, mixed, entry, looked_up, table
 ghost use Rattle.gf128.specs.Code.Words.{IsBitsProduct, IsWordProduct};
 
 use crate::lanes::Lanes;
-use crate::multiples::times_x4;
 use crate::nibbles::Nibbles;
 use crate::placed::Placed;
-use crate::polynomial_word::times_x;
+use crate::polynomial_word::{times_x, times_x4};
 use std::simd::prelude::*;
 use std::simd::u8x16;
 

@@ -1,10 +1,10 @@
 -- Words of 128 bits as polynomials.
-use Rattle.std.specs.Prelude.{◌≡◌, ℕ, ◌+◌, ◌-◌, ◌*◌, ◌/◌, ◌%◌, ◌^◌, ◌≤◌, Bool, false, List, [], ◌∷◌, ◌++◌}
+use Rattle.std.specs.Prelude.{ℕ, ◌+◌, ◌-◌, ◌*◌, ◌/◌, ◌%◌, ◌^◌, Bool, false, List, [], ◌∷◌, ◌++◌}
 use Rattle.std.specs.Prelude.{◌<◌, get_or, slice_index, map, replicate, bit_xor}
 use Rattle.std.specs.List.{range_with_len}
 use Rattle.octets.specs.Bytes.{le}
 use Rattle.octets.specs.Bits.{bit, g}
-use Rattle.octets.specs.Polynomial.{coefficient, Agree, sum, product, power, sum_of_first, residue}
+use Rattle.octets.specs.Polynomial.{Agree, sum, product, power, sum_of_first, residue}
 use Rattle.octets.specs.Polynomial.{IsTheResidue}
 use Rattle.gf128.specs.Ghash.{ghash_modulus}
 
@@ -56,21 +56,6 @@ reduction = 0xe1000000000000000000000000000000
 -- a word times x
 abbrev pub times_x : ℕ → ℕ
 times_x n = bit_xor (n / 2) (n % 2 * reduction)
-
--- the word z and x^128 times the half word s, reduced
-abbrev pub folded : ℕ → ℕ → ℕ
-folded z s =
-    let f : ℕ = s * 2 ^ 64 in
-    bit_xor z (bit_xor f (bit_xor (f / 2 ^ 1) (bit_xor (f / 2 ^ 2) (f / 2 ^ 7))))
-
--- the word z and x^128 times the half word s, not reduced
-abbrev pub wide : ℕ → ℕ → List Bool
-wide z s = of_word z ++ of_bits 64 s
-
--- the word and x^128 times the half word have the residue of p, and together are of degree below 128 + d
-abbrev pub IsSpread : ℕ → List Bool → ℕ → ℕ → Type 0
-IsSpread d p z s = ((k : ℕ) → 128 + d ≤ k → coefficient (wide z s) k ≡ false)
-    × (coefficient (residue ghash_modulus (wide z s)) ≡ coefficient (residue ghash_modulus p))
 
 -- the word n with each of its two lanes of 64 bits shifted up by c places
 abbrev pub lanes_up : ℕ → ℕ → ℕ

@@ -1,7 +1,7 @@
 use Rattle.std.proofs.Common.{◌≡◌, ℕ, ◌^◌, ◌<◌, rules}
 use Rattle.gf128.specs.Code.Words.{IsMoved, times_x}
 use Rattle.gf128.proofs.BitParts.{two_moves, times_x_moves}
-use Rattle.gf128.proofs.multiples.times_x2.Goals as goal
+use Rattle.gf128.proofs.polynomial_word.times_x2.Goals as goal
 
 -- `times_x` multiplies a word by x
 moves : (n m : ℕ) → n < 2 ^ 128 → m ≡ times_x n → IsMoved 1 n m
