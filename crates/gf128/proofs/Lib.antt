@@ -13,5 +13,6 @@ mod Rows
 mod Moves
 mod Placings
 mod LookUps
+mod Pairs
 mod Entries
 mod Powers

@@ -26,6 +26,16 @@ impl Lanes {
         }
     }
 
+    // The vector of sixteen bytes.
+    #[inline(always)]
+    pub(crate) fn of_bytes(bytes: [u8; 16]) -> Lanes
+        ensures { result.bytes ≡ bytes }
+    {
+        Lanes {
+            bytes: u8x16::from_array(bytes),
+        }
+    }
+
     // The word.
     #[inline(always)]
     pub(crate) fn word(self) -> u128

@@ -115,6 +115,24 @@ impl PlainMultiples {
         }
     }
 
+    // The table of byte `j` of the multiples by the high four bits.
+    #[inline(always)]
+    pub(crate) fn high_table(&self, j: usize) -> Lanes
+        requires { j < 16 }
+        ensures { result.bytes ≡ table_at self.now.high j }
+    {
+        Lanes::of_bytes(self.high[j])
+    }
+
+    // The table of byte `j` of the multiples by the low four bits.
+    #[inline(always)]
+    pub(crate) fn low_table(&self, j: usize) -> Lanes
+        requires { j < 16 }
+        ensures { result.bytes ≡ table_at self.now.low j }
+    {
+        Lanes::of_bytes(self.low[j])
+    }
+
     // What the tables of byte `j` of the multiples give for the bytes of a word.
     #[inline(always)]
     pub(crate) fn part(&self, at: Nibbles, j: usize) -> Lanes

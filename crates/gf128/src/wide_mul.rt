@@ -1,19 +1,19 @@
 //! Four products in GHASH's field (SP 800-38D, 6.3) in one sum, by tables of multiples of the key's first four powers.
 
-ghost use Rattle.std.specs.Prelude.{◌≡◌, ◌<◌, bit_xor};
+ghost use Rattle.std.specs.Prelude.{◌≡◌, ◌<◌};
 ghost use Rattle.std.specs.Int.{w128, to_be_bytes};
 ghost use Rattle.octets.specs.Bytes.{le};
 ghost use Rattle.octets.specs.Polynomial.{power};
-ghost use Rattle.gf128.specs.Code.Words.{of_word, looked_word, IsReduced, IsFourProducts};
+ghost use Rattle.gf128.specs.Code.Words.{of_word, looked_word, looked_four, IsReduced, IsFourProducts};
 
 use crate::hash_order::HashOrder;
 use crate::lanes::Lanes;
-use crate::nibbles::Nibbles;
+use crate::nibbles::{NibblePairs, Nibbles};
 use crate::placed::Placed;
 use crate::polynomial_word::word_of;
 use crate::table_mul::TableMul;
 use crate::{Keyed128, Multiply};
-use octets::Block;
+use octets::{Block, WIDE};
 
 /// The multiplier that holds 32 multiples of each of the key's first four powers, 2 KiB, and takes four blocks at a time. It
 /// is for a text of at least 1 KiB, or for a key that is used for several texts.
@@ -30,25 +30,108 @@ pub struct WideMul {
     ghost fourth_power: { IsReduced (power (of_word first.word) 4) fourth.word },
 }
 
-impl WideMul {
-    // XORs what the tables of byte `j` of the multiples give for four words, each with the tables of its own power, the fourth
-    // power first.
+// Four words as the indices of look-ups, one by one and in pairs. Each build uses one of these, and the other is not computed.
+#[derive(Drop, Clone, Copy)]
+struct FourWords {
+    fourth: Nibbles,
+    third: Nibbles,
+    second: Nibbles,
+    first: Nibbles,
+    upper: NibblePairs,
+    lower: NibblePairs,
+    ghost upper_first: { upper.first ≡ fourth.word },
+    ghost upper_second: { upper.second ≡ third.word },
+    ghost lower_first: { lower.first ≡ second.word },
+    ghost lower_second: { lower.second ≡ first.word },
+}
+
+impl FourWords {
+    // The word for the fourth power comes first.
     #[inline(always)]
-    fn part(&self, a: Nibbles, b: Nibbles, c: Nibbles, d: Nibbles, j: usize) -> Lanes
+    fn of(a: Lanes, b: Lanes, c: Lanes, d: Lanes) -> FourWords
+        ensures fourth { result.fourth.word ≡ a }
+        ensures third { result.third.word ≡ b }
+        ensures second { result.second.word ≡ c }
+        ensures first { result.first.word ≡ d }
+    {
+        FourWords {
+            fourth: Nibbles::of(a),
+            third: Nibbles::of(b),
+            second: Nibbles::of(c),
+            first: Nibbles::of(d),
+            upper: NibblePairs::of(a, b),
+            lower: NibblePairs::of(c, d),
+        }
+    }
+}
+
+impl WideMul {
+    // XORs what the tables of byte `j` of the multiples give for four words, each with the tables of its own power: one word
+    // after the other.
+    #[inline(always)]
+    fn part_by_words(&self, words: FourWords, j: usize) -> Lanes
         requires { j < 16 }
         ensures { let s = self.now in le result.bytes
-            ≡ bit_xor (bit_xor (looked_word s.fourth.multiples.high s.fourth.multiples.low a.word.bytes j)
-            (looked_word s.third.multiples.high s.third.multiples.low b.word.bytes j))
-            (bit_xor (looked_word s.second.multiples.high s.second.multiples.low c.word.bytes j)
-            (looked_word s.first.multiples.high s.first.multiples.low d.word.bytes j)) }
+            ≡ looked_four (looked_word s.fourth.multiples.high s.fourth.multiples.low words.fourth.word.bytes)
+            (looked_word s.third.multiples.high s.third.multiples.low words.third.word.bytes)
+            (looked_word s.second.multiples.high s.second.multiples.low words.second.word.bytes)
+            (looked_word s.first.multiples.high s.first.multiples.low words.first.word.bytes) j }
     {
-        let fourth = self.fourth.multiples.part(a, j);
-        let third = self.third.multiples.part(b, j);
-        let second = self.second.multiples.part(c, j);
-        let first = self.first.multiples.part(d, j);
+        let fourth = self.fourth.multiples.part(words.fourth, j);
+        let third = self.third.multiples.part(words.third, j);
+        let second = self.second.multiples.part(words.second, j);
+        let first = self.first.multiples.part(words.first, j);
         let high = fourth.xor(third);
         let low = second.xor(first);
         high.xor(low)
+    }
+
+    // The same by two words at a time, in vectors of 32 bytes.
+    #[inline(always)]
+    fn part_by_pairs(&self, words: FourWords, j: usize) -> Lanes
+        requires { j < 16 }
+        ensures { let s = self.now in le result.bytes
+            ≡ looked_four (looked_word s.fourth.multiples.high s.fourth.multiples.low words.fourth.word.bytes)
+            (looked_word s.third.multiples.high s.third.multiples.low words.third.word.bytes)
+            (looked_word s.second.multiples.high s.second.multiples.low words.second.word.bytes)
+            (looked_word s.first.multiples.high s.first.multiples.low words.first.word.bytes) j }
+    {
+        let fourth = &self.fourth.multiples;
+        let third = &self.third.multiples;
+        let second = &self.second.multiples;
+        let first = &self.first.multiples;
+        let fourth_high = fourth.high_table(j);
+        let fourth_low = fourth.low_table(j);
+        let third_high = third.high_table(j);
+        let third_low = third.low_table(j);
+        let second_high = second.high_table(j);
+        let second_low = second.low_table(j);
+        let first_high = first.high_table(j);
+        let first_low = first.low_table(j);
+        let upper = words
+            .upper
+            .look(fourth_high, fourth_low, third_high, third_low);
+        let lower = words
+            .lower
+            .look(second_high, second_low, first_high, first_low);
+        upper.xor(lower)
+    }
+
+    // The form that the processor's vectors allow.
+    #[inline(always)]
+    fn part(&self, words: FourWords, j: usize) -> Lanes
+        requires { j < 16 }
+        ensures { let s = self.now in le result.bytes
+            ≡ looked_four (looked_word s.fourth.multiples.high s.fourth.multiples.low words.fourth.word.bytes)
+            (looked_word s.third.multiples.high s.third.multiples.low words.third.word.bytes)
+            (looked_word s.second.multiples.high s.second.multiples.low words.second.word.bytes)
+            (looked_word s.first.multiples.high s.first.multiples.low words.first.word.bytes) j }
+    {
+        if WIDE {
+            self.part_by_pairs(words, j)
+        } else {
+            self.part_by_words(words, j)
+        }
     }
 
     // The sum of four words times four powers of the key, the fourth power first.
@@ -60,23 +143,17 @@ impl WideMul {
         self.second.multiples.bytes_known();
         self.third.multiples.bytes_known();
         self.fourth.multiples.bytes_known();
-        let fourth = Nibbles::of(a);
-        let third = Nibbles::of(b);
-        let second = Nibbles::of(c);
-        let first = Nibbles::of(d);
+        let words = FourWords::of(a, b, c, d);
         let mut sum = Placed::none();
         'low: for j in 0..7usize {
-            sum = sum.low(self.part(fourth, third, second, first, j), 8 * j as u64 + 8);
+            sum = sum.low(self.part(words, j), 8 * j as u64 + 8);
         }
-        let seventh = self.part(fourth, third, second, first, 7);
+        let seventh = self.part(words, 7);
         sum = sum.middle(seventh);
         'high: for j in 0..7usize {
-            sum = sum.high(
-                self.part(fourth, third, second, first, j + 8),
-                8 * j as u64 + 8,
-            );
+            sum = sum.high(self.part(words, j + 8), 8 * j as u64 + 8);
         }
-        let last = self.part(fourth, third, second, first, 15);
+        let last = self.part(words, 15);
         sum.reduce_with(last)
     }
 }
