@@ -1,20 +1,18 @@
 -- Products of a word and some bits of a number.
 use Rattle.std.proofs.Common.{◌≡◌, ℕ, zero, suc, ◌+◌, ◌-◌, ◌*◌, ◌/◌, ◌%◌, ◌^◌, ◌<◌, ◌≤◌, Bool, true, false}
-use Rattle.std.proofs.Common.{◌==◌, List, [], ◌∷◌, ◌++◌, length, get_or, reverse, replicate, bit_xor, inl}
-use Rattle.std.proofs.Common.{inr, refl, sym, subst, ap, ap₂, ◌∙◌, arith, zero-add}
+use Rattle.std.proofs.Common.{◌==◌, List, [], ◌∷◌, ◌++◌, length, replicate, bit_xor, inl}
+use Rattle.std.proofs.Common.{inr, refl, sym, ap, ap₂, ◌∙◌, arith, zero-add}
 use mathlib.Core.Path.{fun_ext}
-use Rattle.std.specs.Int.{w64, w128, to_be_bytes, to_le_bytes, bytes_high_first, byte_at}
+use Rattle.std.specs.Int.{w128, to_be_bytes}
 use Rattle.std.proofs.Math.Nat.{zero-mul, one-mul}
 use Rattle.std.proofs.lemmas.Bool.{cases_lt}
-use Rattle.std.proofs.lemmas.List.{get_or_past, get_or-reverse}
+use Rattle.std.proofs.lemmas.List.{get_or_past}
 use Rattle.std.proofs.lemmas.List.FromFn.{get_or-map-range_with_len, length-map-range_with_len}
 use Rattle.std.proofs.lemmas.Nat.{shr-shr}
 use Rattle.std.proofs.lemmas.Nat.Bits.{bit_at_above, bit_at_cat_low, bit_at_cat_high}
-use lib.Bits.{xor_zero_l, xor_zero_r}
 use Rattle.octets.specs.Bits.{bit, is_odd, g}
 use Rattle.octets.specs.Polynomial.{coefficient, plus, sum, product, residue, Agree}
 use Rattle.octets.proofs.Sequence.{sum_of, scaled, plus_false, shift_none}
-use Rattle.octets.proofs.Numbers.{bytes_high_at, byte_bit}
 use Rattle.octets.proofs.Readings.{made_same}
 use Rattle.octets.proofs.Ring.{product_is, residue_sum, residue_product, residue_of_lower, the_residue}
 use Rattle.octets.proofs.Horner.{sum_is, product_first, product_second, product_swap, product_assoc}
@@ -66,19 +64,6 @@ bits_same w n m e = made_same (λ k. bit n (w - 1 - k)) (λ k. bit m (w - 1 - k)
 -- a number a * 2^w + b has the same polynomial of w bits as b
 pub bits_low : (w a b n : ℕ) → a * 2 ^ w + b ≡ n → of_bits w b ≡ of_bits w n
 bits_low w a b n e = bits_same w b n (λ j l. sym (bit_low a w b j l) ∙ ap (λ (x : ℕ). bit x j) e)
-
--- byte i of a half word has the same polynomial as the half word shifted down by 8 i places
-pub byte_of_half : (n i : ℕ) → i < 8 → of_bits 8 (get_or (to_le_bytes w64 n) i 0)
-    ≡ of_bits 8 (n / 2 ^ (8 * i))
-byte_of_half n i l =
-    let back : reverse (bytes_high_first 8 n) ≡ to_le_bytes w64 n = refl in
-    let at : 8 - suc (7 - i) ≡ i = omega arith in
-    let byte : get_or (to_le_bytes w64 n) i 0 ≡ byte_at i n =
-    ap (λ (bs : List ℕ). get_or bs i 0) (sym back) ∙ get_or-reverse (bytes_high_first 8 n) i 0 l
-    ∙ bytes_high_at 8 n (7 - i) (omega arith)
-    ∙ ap (λ (j : ℕ). byte_at j n) at in
-    bits_same 8 (get_or (to_le_bytes w64 n) i 0) (n / 2 ^ (8 * i)) (λ j h.
-    ap (λ (x : ℕ). bit x j) byte ∙ ap (λ (x : ℕ). x == 1) (byte_bit n i j h) ∙ sym (bit_shr n (8 * i) j))
 
 -- the polynomial of w + d bits is that of the upper w bits, plus x^w times that of the lower d bits
 pub bits_joined : (w d n : ℕ) → coefficient (of_bits (w + d) n)
@@ -264,24 +249,12 @@ product_bit (suc zero) h l = λ k.
     (sym (product_one (of_word h))))
 product_bit (suc (suc b)) h l = absurd (omega arith)
 
--- the entry at place j of 0, m, h and their XOR is the upper bit of j times h, XORed with the lower bit times m
-two_entries : (h m j : ℕ) → j < 4 → get_or (0 ∷ m ∷ h ∷ bit_xor h m ∷ []) j 0 ≡ bit_xor (j / 2 * h)
-    (j % 2 * m)
-two_entries h m zero l = rw (zero-mul h, zero-mul m) refl
-two_entries h m (suc zero) l = rw (zero-mul h, one-mul m) (sym (xor_zero_l m))
-two_entries h m (suc (suc zero)) l = rw (one-mul h, zero-mul m) (sym (xor_zero_r h))
-two_entries h m (suc (suc (suc zero))) l = rw (one-mul h, one-mul m) refl
-two_entries h m (suc (suc (suc (suc j)))) l = absurd (omega arith)
-
--- the entry at place j of 0, m, h and their XOR is the product of the two bits of j and h, if m is x times h
-pub two_bits : (h m j : ℕ) → IsMoved 1 h m → j < 4
-    → IsBitsProduct 2 j h (get_or (0 ∷ m ∷ h ∷ bit_xor h m ∷ []) j 0)
-two_bits h m j moved l =
-    let by : IsBitsProduct 2 j h (bit_xor (j / 2 * h) (j % 2 * m)) =
+-- the upper bit of j times h, XORed with the lower bit times m, is the product of the two bits of j and h, if m is x times h
+pub two_bits_by : (h m j : ℕ) → IsMoved 1 h m → j < 4 → IsBitsProduct 2 j h (bit_xor (j / 2 * h) (j % 2 * m))
+two_bits_by h m j moved l =
     joined 1 1 j h m (j / 2 * h) (j % 2 * m) moved (product_bit (j / 2) h (omega arith))
     (product_low 1 (j / 2) (j % 2) j m (j % 2 * m) (omega arith)
-    (product_bit (j % 2) m (omega arith))) in
-    rw (two_entries h m j l) by
+    (product_bit (j % 2) m (omega arith)))
 
 -- the product of all 128 bits of x and the word h is the product of the words
 pub word_product_is : (x h z : ℕ) → IsBitsProduct 128 x h z → IsWordProduct x (to_be_bytes w128 h) z
@@ -290,17 +263,3 @@ word_product_is x h z is =
     let agree : Agree (of_word z) (residue ghash_modulus (product (of_word x) (g (to_be_bytes w128 h)))) =
     rw (g-to_be h) is in
     the_residue ghash_modulus (product (of_word x) (g (to_be_bytes w128 h))) (of_word z) refl agree
-
--- ---- tables
-
--- P holds of each entry of a list, the first of which has the number k
-abbrev pub AllFrom : {A : Type 0} → (ℕ → A → Type 0) → ℕ → List A → Type 0
-AllFrom P k [] = Unit {0}
-AllFrom P k (x ∷ xs) = P k x × AllFrom P (suc k) xs
-
--- P holds of the entry at place j, if it holds of all entries
-pub entry_at : {A : Type 0} (P : ℕ → A → Type 0) (k j n : ℕ) (xs : List A) (d : A) → k + j ≡ n → j < length xs
-    → AllFrom P k xs → P n (get_or xs j d)
-entry_at P k j n [] d e l all = absurd (omega arith)
-entry_at P k zero n (x ∷ xs) d e l all = subst (λ (m : ℕ). P m x) (omega arith) all.0
-entry_at P k (suc j) n (x ∷ xs) d e l all = entry_at P (suc k) j n xs d (omega arith) (omega arith) all.1

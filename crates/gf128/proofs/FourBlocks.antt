@@ -1,40 +1,18 @@
 -- The words of four blocks, in terms of the bytes of the blocks.
-use Rattle.std.proofs.Common.{◌≡◌, ℕ, ◌+◌, ◌-◌, ◌*◌, ◌/◌, ◌%◌, ◌^◌, ◌<◌, ◌≤◌, Bool, List, [], length, take, drop}
-use Rattle.std.proofs.Common.{get_or, bit_xor, inl, inr, ap, ap₂, sym, ◌∙◌, arith}
+use Rattle.std.proofs.Common.{◌≡◌, ℕ, ◌+◌, ◌-◌, ◌*◌, ◌<◌, ◌≤◌, Bool, List, [], length, take, drop}
+use Rattle.std.proofs.Common.{get_or, bit_xor, inl, inr, ap, sym, ◌∙◌, arith}
 use Rattle.std.specs.Int.{w128, from_be_bytes, from_le_bytes}
 use Rattle.std.proofs.lemmas.Bool.{cases_lt}
 use Rattle.std.proofs.lemmas.List.{get_or_past, get_or-take, get_or-drop, length-drop, length-take, length-take-le}
-use Rattle.std.proofs.lemmas.Nat.{shr-shr}
 use Rattle.octets.specs.Bits.{bit, g}
 use Rattle.octets.specs.Bytes.{IsBlock, block_at}
 use Rattle.octets.specs.Polynomial.{coefficient, plus, sum, product, power, sum_of_first, residue, Agree}
 use Rattle.octets.proofs.BitFacts.{bit_of_xor}
-use Rattle.octets.proofs.Readings.{g_at}
 use Rattle.gf128.specs.Ghash.{ghash_modulus}
-use Rattle.gf128.specs.Code.Words.{of_bits, of_word, IsFourProducts}
+use Rattle.gf128.specs.Code.Words.{of_word, IsFourProducts}
 use Rattle.gf128.specs.Orders.{Order, Straight, Reversed, reading}
-use Rattle.gf128.proofs.BitParts.{bit_shr, bits_same, of_bits_at}
+use Rattle.gf128.proofs.BitParts.{bits_same, of_bits_at}
 use Rattle.gf128.proofs.WordLemmas.{of_word-be, of_word-le}
-
--- a byte of a block has the same bits as its word, shifted down by 8 p places
-pub byte_read : (bs : List ℕ) (w p : ℕ) → p < 16 → of_word w ≡ g bs
-    → of_bits 8 (get_or bs (15 - p) 0) ≡ of_bits 8 (w / 2 ^ (8 * p))
-unfolding of_word
-byte_read bs w p small e =
-    bits_same 8 (get_or bs (15 - p) 0) (w / 2 ^ (8 * p)) (λ j h.
-    let k : ℕ = 8 * (15 - p) + (7 - j) in
-    let byte : 15 - p ≡ k / 8 = omega (arith, small, h) in
-    let place : j ≡ 7 - k % 8 = omega (arith, small, h) in
-    let at : 128 - 1 - k ≡ 8 * p + j = omega (arith, small, h) in
-    ap₂ (λ x i. bit (get_or bs x 0) i) byte place ∙ sym (g_at bs k) ∙ ap (λ q. coefficient q k) (sym e)
-    ∙ of_bits_at 128 w k (omega (arith, small, h)) ∙ ap (bit w) at ∙ sym (bit_shr w (8 * p) j))
-
--- a byte further up has the same bits as the word, shifted down twice
-pub byte_above : (n p q r w : ℕ) → p + q ≡ r → of_bits 8 n ≡ of_bits 8 (w / 2 ^ (8 * r))
-    → of_bits 8 n ≡ of_bits 8 (w / 2 ^ (8 * p) / 2 ^ (8 * q))
-byte_above n p q r w e is =
-    let at : 8 * r ≡ 8 * p + 8 * q = omega (arith, e) in
-    is ∙ ap (λ i. of_bits 8 (w / 2 ^ i)) at ∙ ap (of_bits 8) (sym (shr-shr w (8 * p) (8 * q)))
 
 -- two words with one polynomial have the same bits
 same_bit : (a b j : ℕ) → j < 128 → of_word a ≡ of_word b → bit a j ≡ bit b j

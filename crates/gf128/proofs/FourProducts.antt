@@ -10,19 +10,17 @@ use Rattle.octets.specs.Bits.{g, bytes_of_g}
 use Rattle.octets.specs.Polynomial.{coefficient, plus, sum, product, power, sum_of_first, residue, Agree}
 use Rattle.octets.proofs.Sequence.{sum_of, sum_exchange, plus_assoc, plus_false}
 use Rattle.octets.proofs.Residue.{residue_lower}
-use Rattle.octets.proofs.Ring.{residue_product, residue_of_lower, the_residue, coefficient_sum}
+use Rattle.octets.proofs.Ring.{product_is, residue_product, residue_of_lower, the_residue, coefficient_sum}
 use Rattle.octets.proofs.Horner.{sum_is, product_second, residue_same, times_same, times_residue, horner}
 use Rattle.octets.proofs.Horner.{product_one}
 use Rattle.octets.proofs.Spelled.{bytes_of_g_bytes, g_bytes_of}
 use Rattle.octets.proofs.Reversal.{raised, raised_low, raised_high, coefficient_below}
 use Rattle.gf128.specs.Ghash.{ghash_modulus}
 use Rattle.gf128.specs.Code.Words.{of_bits, of_word, products, IsReduced, IsWordProduct, IsFourProducts}
-use Rattle.gf128.specs.Code.Words.{IsSpread}
 use Rattle.gf128.proofs.WordLemmas.{of_word_xor, of_word_zero, of_word-be, g-to_be, word_product}
 use Rattle.gf128.proofs.BitParts.{residue_parts, product_joined, reduced_same, reduced_is}
 use Rattle.gf128.proofs.BitParts.{own_residue}
 use Rattle.gf128.proofs.Folds.{raised_sum}
-use Rattle.gf128.proofs.Chains.{spread_same, no_bits}
 
 -- ---- sums of products, some bits at a time
 
@@ -65,6 +63,11 @@ products_joined w d (p ∷ rest) =
     ∙ ap (raised w) (sym (sum_is b f)) ∙ sym (raise (sum b f)))
     ∙ sym (sum_is (sum a e) (up (sum b f)))
 
+-- the product of no bits and a word is 0
+pub no_bits : (n h k : ℕ) → coefficient (product (of_bits 0 n) (of_word h)) k ≡ false
+unfolding of_bits
+no_bits n h k = ap (λ f. f k) (product_is [] (of_word h))
+
 -- the sum of products of no bits is 0
 pub products_none : (l : List (ℕ × ℕ)) (k : ℕ) → coefficient (products 0 l) k ≡ false
 products_none [] k = refl
@@ -72,33 +75,11 @@ products_none (p ∷ rest) k =
     coefficient_sum (product (of_bits 0 p.0) (of_word p.1)) (products 0 rest) k
     ∙ ap₂ plus (no_bits p.0 p.1 k) (products_none rest k)
 
--- if z and s spread the sum for the upper w bits and x^w times the lower d bits, they spread the sum for all the bits
-pub products_more : (w d e : ℕ) (l : List (ℕ × ℕ)) (z s : ℕ) → w + d ≡ e
-    → IsSpread (w + d) (sum (products w (shortened d l)) (replicate w false ++ products d l)) z s
-    → IsSpread e (products e l) z s
-products_more w d e l z s at held =
-    rw at at (spread_same (w + d) (sum (products w (shortened d l)) (replicate w false ++ products d l))
-    (products (w + d) l) z s (sym (products_joined w d l)) held)
-
 -- if t is the residue of p, it is the residue of p plus the empty polynomial
 pub last_product : (p : List Bool) (t : ℕ) → IsReduced p t → IsReduced (sum p []) t
 last_product p t is =
     reduced_same p (sum p []) t (fun_ext (λ k. sym (coefficient_sum p [] k ∙ plus_false (coefficient p k))))
     is
-
--- the sum of products of 128 bits is that of the upper halves, plus x^64 times that of the lower halves
-pub products_halves : (l : List (ℕ × ℕ)) (z : ℕ)
-    → IsReduced (sum (products 64 (shortened 64 l)) (replicate 64 false ++ products 64 l)) z
-    → IsReduced (products 128 l) z
-products_halves l z is =
-    reduced_same (sum (products 64 (shortened 64 l)) (replicate 64 false ++ products 64 l)) (products 128 l)
-    z (sym (products_joined 64 64 l)) is
-
--- the sum of four products depends only on the w lowest bits of the numbers
-pub four_parts : (w a b c d p q r e h s t u : ℕ) → of_bits w p ≡ of_bits w a → of_bits w q ≡ of_bits w b
-    → of_bits w r ≡ of_bits w c → of_bits w e ≡ of_bits w d
-    → products w ((p, u) ∷ (q, t) ∷ (r, s) ∷ (e, h) ∷ []) ≡ products w ((a, u) ∷ (b, t) ∷ (c, s) ∷ (d, h) ∷ [])
-four_parts w a b c d p q r e h s t u ea eb ec ed = rw (ea, eb, ec, ed) refl
 
 -- ---- powers of the key
 

@@ -6,7 +6,13 @@ mod ByGhash
 mod LaneWords
 mod Folds
 mod BitParts
-mod Chains
 mod FourBlocks
 mod FourProducts
 mod Vectors
+mod Rows
+mod Moves
+mod Placings
+mod LookUps
+mod Pairs
+mod Entries
+mod Powers

@@ -1,7 +1,7 @@
 -- Words of 128 bits as polynomials, and a product bit by bit.
-use Rattle.std.proofs.Common.{◌≡◌, ◌≢◌, ℕ, zero, suc, ◌+◌, ◌-◌, ◌*◌, ◌/◌, ◌%◌, ◌^◌, ◌<◌, ◌≤◌, Bool, true}
+use Rattle.std.proofs.Common.{◌≡◌, ℕ, zero, suc, ◌+◌, ◌-◌, ◌*◌, ◌/◌, ◌%◌, ◌^◌, ◌<◌, ◌≤◌, Bool, true}
 use Rattle.std.proofs.Common.{false, ◌&&◌, ◌==◌, List, [], ◌∷◌, ◌++◌, map, drop, take, length, get_or}
-use Rattle.std.proofs.Common.{reverse, bit_xor, bit_and, inl, inr, refl, sym, ap, ap₂, ◌∙◌, arith, zero-add}
+use Rattle.std.proofs.Common.{reverse, bit_xor, inl, inr, refl, sym, ap, ap₂, ◌∙◌, arith, zero-add}
 use Rattle.std.specs.Int.{w128, from_be_bytes, from_le_bytes, to_be_bytes, to_le_bytes, bytes_high_first}
 use Rattle.std.specs.Int.{byte_at}
 use Rattle.std.specs.List.{range_with_len}
@@ -10,7 +10,6 @@ use Rattle.std.proofs.lemmas.Bool.{cases_lt}
 use Rattle.std.proofs.lemmas.List.{get_or_past, get_or_append_left, get_or-reverse, length-reverse}
 use Rattle.std.proofs.lemmas.List.{reverse-append, drop_more, drop_all, take_all}
 use Rattle.std.proofs.lemmas.List.FromFn.{get_or-map-range_with_len, length-map-range_with_len}
-use Rattle.std.proofs.lemmas.Nat.Bits.{shr_and_one}
 use mathlib.Core.Path.{fun_ext}
 use Rattle.octets.specs.Bytes.{le, be, IsBlock}
 use Rattle.octets.specs.Bits.{bit, is_odd, g, v}
@@ -252,29 +251,26 @@ so_far_more f h i p q l small next held k =
           ∙ sym (residue_lower ghash_modulus (product (drop j (of_word f)) (of_word h)) k high)
     ]
 
--- if b is f / 2^i modulo 2, bit i of f as a truth value is whether b is 1
-bit_is : (f i b : ℕ) → f / 2 ^ i % 2 ≡ b → bit f i ≡ (b == 1)
-bit_is f i b e = ap (λ (x : ℕ). x == 1) e
+-- the coefficients of h or 0 are those of h, or false
+factor_at : (b h k : ℕ) → b < 2 → coefficient (of_word (b * h)) k ≡ ((b == 1) && coefficient (of_word h) k)
+factor_at zero h k l = ap (λ (x : ℕ). coefficient (of_word x) k) (zero-mul h) ∙ of_word_zero k
+factor_at (suc zero) h k l = ap (λ (x : ℕ). coefficient (of_word x) k) (one-mul h)
+factor_at (suc (suc b)) h k l = absurd (omega arith)
 
--- if bit i is set, x times p plus h is the product of i + 1 bits
-pub so_far_set : (f h i p : ℕ) → i < 128 → p < 2 ^ 128 → bit_and (f / 2 ^ i) 1 ≡ 1 → IsSoFar f h i p
-    → IsSoFar f h (i + 1) (bit_xor (times_x p) h)
-so_far_set f h i p l small set =
-    let b : bit f i ≡ true = bit_is f i 1 (sym (shr_and_one f i) ∙ set) in
-    so_far_more f h i p (bit_xor (times_x p) h) l small (λ k low.
-    of_word_xor (times_x p) h k ∙ plus_comm (coefficient (of_word (times_x p)) k)
-    (coefficient (of_word h) k)
-    ∙ ap (λ x. plus (x && coefficient (of_word h) k) (coefficient (of_word (times_x p)) k)) (sym b))
+-- a bit times a word is a word
+pub bit_times_lt : (b h : ℕ) → b < 2 → h < 2 ^ 128 → b * h < 2 ^ 128
+bit_times_lt zero h l small = let e : 0 * h ≡ 0 = zero-mul h in omega arith
+bit_times_lt (suc zero) h l small = let e : 1 * h ≡ h = one-mul h in omega arith
+bit_times_lt (suc (suc b)) h l small = absurd (omega arith)
 
--- if bit i is not set, x times p is the product of i + 1 bits
-pub so_far_clear : (f h i p : ℕ) → i < 128 → p < 2 ^ 128 → bit_and (f / 2 ^ i) 1 ≢ 1 → IsSoFar f h i p
-    → IsSoFar f h (i + 1) (times_x p)
-so_far_clear f h i p l small clear =
-    let e : bit_and (f / 2 ^ i) 1 ≡ f / 2 ^ i % 2 = shr_and_one f i in
-    let b : bit f i ≡ false = bit_is f i 0 (omega arith) in
-    so_far_more f h i p (times_x p) l small
-    (λ k low. ap (λ x. plus (x && coefficient (of_word h) k) (coefficient (of_word (times_x p)) k))
-    (sym b))
+-- x times p, plus bit i of f times h, is the product of i + 1 bits
+pub so_far_bit : (f h i p : ℕ) → i < 128 → p < 2 ^ 128 → IsSoFar f h i p
+    → IsSoFar f h (i + 1) (bit_xor (times_x p) (f / 2 ^ i % 2 * h))
+so_far_bit f h i p l small =
+    so_far_more f h i p (bit_xor (times_x p) (f / 2 ^ i % 2 * h)) l small (λ k low.
+    of_word_xor (times_x p) (f / 2 ^ i % 2 * h) k
+    ∙ plus_comm (coefficient (of_word (times_x p)) k) (coefficient (of_word (f / 2 ^ i % 2 * h)) k)
+    ∙ ap (λ x. plus x (coefficient (of_word (times_x p)) k)) (factor_at (f / 2 ^ i % 2) h k (omega arith)))
 
 -- the product of all 128 bits is the product of the words
 pub so_far_all : (f h i p : ℕ) → i ≡ 128 → IsSoFar f h i p → IsWordProduct f (to_be_bytes w128 h) p

@@ -7,8 +7,8 @@ use crate::polynomial_word::{block_of, times_x, word_of};
 use crate::{Keyed128, Multiply};
 use octets::Block;
 
-/// The multiplier that takes one bit at a time. Not constant time: it branches on each bit of the factor, which is a sum that
-/// key and text determine, and on bits of the product.
+/// The multiplier that takes one bit at a time. It has no table, and no branch: each bit of the factor multiplies the key, and
+/// each bit that falls out of the product multiplies the modulus.
 #[derive(Drop, Clone, Copy)]
 pub struct BitMul {
     key: u128,
@@ -19,13 +19,11 @@ impl Multiply for BitMul {
 
     fn times(&self, x: &Block) -> Block {
         let factor = word_of(x.bytes());
+        let key = self.key;
         let mut product = 0u128;
         // From the coefficient of x^127, the lowest bit, to that of x^0.
         'bits: for i in 0..128u32 {
-            product = times_x(product);
-            if (factor >> i) & 1 == 1 {
-                product ^= self.key;
-            }
+            product = times_x(product) ^ ((factor >> i) % 2 * key);
         }
         block_of(product)
     }

@@ -20,11 +20,6 @@ impl HashOrder for GhashOrder {
     }
 
     #[inline(always)]
-    fn byte_at(block: &[u8; 16], place: usize) -> u8 {
-        block[15 - place]
-    }
-
-    #[inline(always)]
     fn hash_of(sum: u128) -> Block {
         block_of(sum)
     }

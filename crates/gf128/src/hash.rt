@@ -46,7 +46,7 @@ pub struct BlockHash<M, O> {
 impl<M: Keyed128, O: HashOrder> BlockHash<M, O> {
     ghost use Rattle.gf128.specs.Code.States.{HashHolds};
 
-    /// Makes a state that holds the empty text, under a key of 16 bytes. Not constant time: see the multiplier.
+    /// Makes a state that holds the empty text, under a key of 16 bytes.
     pub fn new(key: &Block) -> BlockHash<M, O>
         ensures { HashHolds O.order M.key_bytes result key.now [] }
     {

@@ -17,12 +17,6 @@ pub trait HashOrder {
     fn word_of(block: &[u8; 16]) -> u128
         ensures { of_word result ≡ reading order block.now };
 
-    /// Returns the byte of a block at an index in its word: index 0 is the lowest byte, index 15 the highest.
-    fn byte_at(block: &[u8; 16], place: usize) -> u8
-        requires { place < 16 }
-        ensures { (w : ℕ) → of_word w ≡ reading order block.now
-            → of_bits 8 result ≡ of_bits 8 (w / 2 ^ (8 * place)) };
-
     /// Returns the hash of blocks from their sum, which is a word.
     fn hash_of(sum: u128) -> Block
         ensures value { (h k m : List ℕ) → Serves order h k

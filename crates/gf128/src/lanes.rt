@@ -2,15 +2,16 @@
 
 ghost use Rattle.std.specs.Prelude.{◌≡◌, ◌+◌, ◌*◌, ◌/◌, ◌%◌, ◌^◌, ◌<◌, bit_xor};
 ghost use Rattle.octets.specs.Bytes.{IsBlock, le};
+ghost use Rattle.gf128.specs.Code.Words.{lanes_up, lanes_down};
 
 use octets::le_bytes;
 use std::simd::prelude::*;
-use std::simd::u8x16;
+use std::simd::{u8x16, u64x2};
 
 // A word as the vector of its bytes, the least significant one first.
 #[derive(Drop, Clone, Copy)]
 pub(crate) struct Lanes {
-    bytes: u8x16,
+    pub(crate) bytes: u8x16,
     ghost is_block: { IsBlock bytes },
 }
 
@@ -22,6 +23,16 @@ impl Lanes {
     {
         Lanes {
             bytes: u8x16::from_array(le_bytes(word)),
+        }
+    }
+
+    // The vector of sixteen bytes.
+    #[inline(always)]
+    pub(crate) fn of_bytes(bytes: [u8; 16]) -> Lanes
+        ensures { result.bytes ≡ bytes }
+    {
+        Lanes {
+            bytes: u8x16::from_array(bytes),
         }
     }
 
@@ -43,17 +54,25 @@ impl Lanes {
         }
     }
 
-    // The word shifted down by one byte, with the lowest byte of `above` as its highest.
+    // The word with both its halves shifted up.
     #[inline(always)]
-    pub(crate) fn down_below(self, above: Lanes) -> Lanes
-        ensures value { le result.bytes ≡ le above.bytes % 256 * 2 ^ 120 + le self.bytes / 256 }
-        ensures small { le self.bytes < 2 ^ 128 }
+    pub(crate) fn up(self, count: u64) -> Lanes
+        requires { count < 64 }
+        ensures { le result.bytes ≡ lanes_up count (le self.bytes) }
     {
         Lanes {
-            bytes: self.bytes.shuffle(
-                above.bytes,
-                [1, 2, 3, 4, 5, 6, 7, 8, 9, 10, 11, 12, 13, 14, 15, 16],
-            ),
+            bytes: (u64x2::from_le_bytes(self.bytes) << u64x2::splat(count)).to_le_bytes(),
+        }
+    }
+
+    // The word with both its halves shifted down.
+    #[inline(always)]
+    pub(crate) fn down(self, count: u64) -> Lanes
+        requires { count < 64 }
+        ensures { le result.bytes ≡ lanes_down count (le self.bytes) }
+    {
+        Lanes {
+            bytes: (u64x2::from_le_bytes(self.bytes) >> u64x2::splat(count)).to_le_bytes(),
         }
     }
 }

@@ -1,5 +1,6 @@
 //! Products in GHASH's field, and GHASH (SP 800-38D, 6.3 and 6.4) and POLYVAL (RFC 8452, 3) over a text that comes in pieces.
-//! No call fails, and none allocates. No multiplier is constant time: each says what it looks up, or branches on.
+//! No call fails, and none allocates. No multiplier looks a table in memory up by bytes of the key or of the text, or branches on
+//! them; the proofs say nothing of timing.
 //!
 //! From `crates/gf128/src/uses.rt`:
 //! ```
@@ -16,16 +17,17 @@
 #![tactic(auto)]
 
 mod bit_mul;
-mod chain;
 mod ghash;
 mod hash;
 mod hash_order;
 mod keyed;
 mod lanes;
-mod multiples;
+mod nibbles;
+mod placed;
 mod polynomial_word;
 mod polyval;
 mod table_mul;
+mod tables;
 mod uses;
 mod wide_mul;
 
@@ -34,12 +36,12 @@ pub use ghash::{Ghash, GhashOrder, ghash_is_the_only};
 pub use hash::BlockHash;
 pub use hash_order::HashOrder;
 pub use keyed::{Keyed128, Multiply};
-pub use multiples::PlainMultiples;
 pub use polyval::{
     Polyval, PolyvalOrder, dot_is_the_only, polyval_by_ghash, polyval_is_the_only, reversed_mul_x,
 };
 pub use table_mul::{PlainMul, TableMul};
+pub use tables::PlainMultiples;
 pub use wide_mul::WideMul;
 
-/// The multiplier to take if the length of the text is not known: its table is small and quickly made.
+/// The multiplier to take if the length of the text is not known: its tables are small and quickly made.
 pub type Mul = TableMul;

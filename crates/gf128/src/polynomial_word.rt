@@ -1,9 +1,9 @@
 //! Words of 128 bits as polynomials of GHASH's field (SP 800-38D, 6.3): the bit of weight 2^127 is the coefficient of x^0.
 
-ghost use Rattle.std.specs.Prelude.{◌≡◌, ℕ, ◌+◌, ◌*◌, ◌/◌, ◌%◌, ◌^◌, ◌<◌, List, reverse, slice_index};
+ghost use Rattle.std.specs.Prelude.{◌≡◌, reverse};
 ghost use Rattle.octets.specs.Bytes.{IsBlock};
 ghost use Rattle.octets.specs.Bits.{g, v};
-ghost use Rattle.gf128.specs.Code.Words.{of_bits, of_word, times_x};
+ghost use Rattle.gf128.specs.Code.Words.{of_word, times_x, IsMoved};
 
 use octets::{Block, be_bytes, le_bytes};
 
@@ -26,38 +26,6 @@ pub(crate) fn reversed_word_of(block: &[u8; 16]) -> u128
     u128::from_le_bytes(*block)
 }
 
-// The high half word.
-#[inline(always)]
-pub(crate) fn high_half(word: u128) -> u64
-    ensures { result ≡ word / 2 ^ 64 }
-{
-    (word >> 64) as u64
-}
-
-// The low half word.
-#[inline(always)]
-pub(crate) fn low_half(word: u128) -> u64
-    ensures { result ≡ word % 2 ^ 64 }
-{
-    (word % 0x1_0000_0000_0000_0000) as u64
-}
-
-// The word of two halves.
-#[inline(always)]
-pub(crate) fn of_halves(high: u64, low: u64) -> u128
-    ensures { result ≡ high * 2 ^ 64 + low }
-{
-    u128::from(high) << 64 | u128::from(low)
-}
-
-// The bytes of a half word, the least significant one first.
-#[inline(always)]
-pub(crate) fn bytes_of(half: u64) -> [u8; 8]
-    ensures { (i : ℕ) → i < 8 → of_bits 8 (slice_index result i) ≡ of_bits 8 (half / 2 ^ (8 * i)) }
-{
-    half.to_le_bytes()
-}
-
 // The block of a word.
 #[inline(always)]
 pub(crate) fn block_of(word: u128) -> Block
@@ -76,15 +44,28 @@ pub(crate) fn reversed_block_of(word: u128) -> Block
     Block::new(le_bytes(word))
 }
 
-// The word times x.
+// The word times x, with no branch: the bit that falls out is a factor.
 #[inline(always)]
 pub(crate) fn times_x(word: u128) -> u128
     ensures { result ≡ times_x word }
 {
-    let half = word >> 1;
-    if word & 1 == 1 {
-        half ^ REDUCTION
-    } else {
-        half
-    }
+    (word >> 1) ^ (word % 2 * REDUCTION)
+}
+
+// Multiplies a word by x^2.
+#[inline(always)]
+fn times_x2(word: u128) -> u128
+    ensures { IsMoved 2 word result }
+{
+    let by_x = times_x(word);
+    times_x(by_x)
+}
+
+// Multiplies a word by x^4.
+#[inline(always)]
+pub(crate) fn times_x4(word: u128) -> u128
+    ensures { IsMoved 4 word result }
+{
+    let by_x2 = times_x2(word);
+    times_x2(by_x2)
 }

@@ -33,11 +33,6 @@ impl HashOrder for PolyvalOrder {
     }
 
     #[inline(always)]
-    fn byte_at(block: &[u8; 16], place: usize) -> u8 {
-        block[place]
-    }
-
-    #[inline(always)]
     fn hash_of(sum: u128) -> Block {
         reversed_block_of(sum)
     }

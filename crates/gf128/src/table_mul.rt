@@ -1,41 +1,70 @@
-//! Multiplication in GHASH's field (SP 800-38D, 6.3) by a table of 32 multiples of the key, one byte at a time.
+//! Multiplication in GHASH's field (SP 800-38D, 6.3) by 32 tables of 16 bytes, which hold 32 multiples of the key.
 
 ghost use Rattle.std.specs.Prelude.{◌≡◌};
 ghost use Rattle.std.specs.Int.{w128, to_be_bytes};
-ghost use Rattle.gf128.specs.Code.Words.{of_word, AreMultiples, stored_number};
+ghost use Rattle.gf128.specs.Code.Words.{of_word, entry, AreMultiples};
 ghost use Rattle.gf128.specs.Code.PlainMultiples.{HasMultiples};
 
-use crate::lanes::Lanes;
-use crate::multiples::{ByteMultiples, Multiples32, PlainMultiples};
-use crate::polynomial_word::word_of;
+use crate::polynomial_word::{block_of, word_of};
+use crate::tables::PlainMultiples;
 use crate::{Keyed128, Multiply};
 use octets::Block;
 
-/// The multiplier that holds 32 multiples of the key, half a KiB, and multiplies by a byte with two of them.
+/// The multiplier that holds 32 multiples of the key, half a KiB: the first choice, whatever the length of the text.
 ///
-/// Not constant time. For each of the 16 bytes of the factor it looks up two tables of 16 entries of 16 bytes, one by the high
-/// and one by the low four bits. In a hash the factor is the sum so far XORed with a block, which key and text determine:
-/// code on the same processor may learn from the cache which entries were read, and from these the key. To make the tables
-/// it branches on bits of the key.
+/// Each byte of the factor looks up two multiples, one by the high and one by the low four bits. The multiples are stored byte by
+/// byte, so that all sixteen bytes of the factor look up their byte of their multiples at once, in a vector of 16 bytes: no
+/// address and no branch depends on the key or on the factor. The tables are made without any too.
 #[derive(Drop, Clone, Copy)]
 pub struct TableMul {
-    multiples: Multiples32,
+    pub(crate) word: u128,
+    pub(crate) multiples: PlainMultiples,
+    ghost filled: { AreMultiples (of_word word) (entry multiples.high) (entry multiples.low) },
 }
 
 impl TableMul {
+    // The multiplier of a word.
+    #[inline(always)]
+    pub(crate) fn of_word(word: u128) -> TableMul
+        ensures { result.word ≡ word }
+    {
+        TableMul {
+            word,
+            multiples: PlainMultiples::of(word),
+        }
+    }
+
+    // The multiplier of 0, whose tables are all zeros.
+    #[inline(always)]
+    pub(crate) fn of_zero() -> TableMul
+        ensures { result.word ≡ 0 }
+    {
+        TableMul {
+            word: 0,
+            multiples: PlainMultiples::zeros(),
+        }
+    }
+
+    // Makes this the multiplier of a word.
+    pub(crate) fn set_word(&mut self, word: u128)
+        ensures { self.new.word ≡ word }
+    {
+        *self = TableMul::of_word(word);
+    }
+
     /// Returns the multiples of the key as plain numbers, for [`PlainMul`].
     pub fn plain_multiples(&self) -> PlainMultiples
         ensures { HasMultiples result (⟦<TableMul as Multiply>⟧.key_bytes self.now) }
     {
-        self.multiples.numbers()
+        self.multiples
     }
 }
 
 impl Multiply for TableMul {
-    ghost key_bytes = { λ s. to_be_bytes w128 s.multiples.word };
+    ghost key_bytes = { λ s. to_be_bytes w128 s.word };
 
     fn times(&self, x: &Block) -> Block {
-        self.multiples.times_block(x)
+        block_of(self.multiples.times_word(word_of(x.bytes())))
     }
 
     fn times_word(&self, x: u128) -> u128 {
@@ -45,19 +74,21 @@ impl Multiply for TableMul {
 
 impl Keyed128 for TableMul {
     fn of(key: &Block) -> TableMul {
-        TableMul {
-            multiples: Multiples32::of(word_of(key.bytes())),
-        }
+        TableMul::of_word(word_of(key.bytes()))
+    }
+
+    fn none() -> TableMul {
+        TableMul::of_zero()
     }
 }
 
-/// The multiplier that borrows the plain numbers that [`TableMul::plain_multiples`] returned. It makes no table, and takes a little
-/// longer than [`TableMul`] for each block. Not constant time: it looks up the same entries as [`TableMul`].
+/// The multiplier that borrows the plain numbers that [`TableMul::plain_multiples`] returned. It makes no table. It looks them up as
+/// [`TableMul`] does: no address and no branch depends on the key or on the factor.
 #[derive(Drop, Clone, Copy)]
 pub struct PlainMul<'a> {
     word: u128,
     numbers: &'a PlainMultiples,
-    ghost filled: { AreMultiples (of_word word) (stored_number numbers.now.high) (stored_number numbers.now.low) },
+    ghost filled: { AreMultiples (of_word word) (entry numbers.now.high) (entry numbers.now.low) },
 }
 
 impl<'a> PlainMul<'a> {
@@ -75,23 +106,14 @@ impl<'a> PlainMul<'a> {
     }
 }
 
-impl<'a> ByteMultiples for PlainMul<'a> {
-    ghost factor = { λ s. s.word };
-
-    #[inline(always)]
-    fn at(&self, byte: u8) -> Lanes {
-        self.numbers.sum_at(byte)
-    }
-}
-
 impl<'a> Multiply for PlainMul<'a> {
     ghost key_bytes = { λ s. to_be_bytes w128 s.word };
 
     fn times(&self, x: &Block) -> Block {
-        self.times_block(x)
+        block_of(self.numbers.times_word(word_of(x.bytes())))
     }
 
     fn times_word(&self, x: u128) -> u128 {
-        ByteMultiples::times_word(self, x)
+        self.numbers.times_word(x)
     }
 }

@@ -1,82 +1,160 @@
 //! Four products in GHASH's field (SP 800-38D, 6.3) in one sum, by tables of multiples of the key's first four powers.
 
-ghost use Rattle.std.specs.Prelude.{◌≡◌, ℕ, ◌+◌, ◌*◌, ◌/◌, ◌^◌, ◌≤◌, List, [], ◌∷◌};
+ghost use Rattle.std.specs.Prelude.{◌≡◌, ◌<◌};
 ghost use Rattle.std.specs.Int.{w128, to_be_bytes};
 ghost use Rattle.octets.specs.Bytes.{le};
 ghost use Rattle.octets.specs.Polynomial.{power};
-ghost use Rattle.gf128.specs.Code.Words.{of_word, products, IsReduced, IsSpread};
-ghost use Rattle.gf128.specs.Orders.{reading};
+ghost use Rattle.gf128.specs.Code.Words.{of_word, looked_word, looked_four, IsReduced, IsFourProducts};
 
-use crate::chain::Chain;
 use crate::hash_order::HashOrder;
 use crate::lanes::Lanes;
-use crate::multiples::{ByteMultiples, Multiples256};
-use crate::polynomial_word::{block_of, bytes_of, high_half, low_half, word_of};
+use crate::nibbles::{NibblePairs, Nibbles};
+use crate::placed::Placed;
+use crate::polynomial_word::word_of;
+use crate::table_mul::TableMul;
 use crate::{Keyed128, Multiply};
-use octets::Block;
+use octets::{Block, WIDE};
 
-/// The multiplier that holds 256 multiples of each of the key's first four powers, 16 KiB, and takes four blocks at a time. It
+/// The multiplier that holds 32 multiples of each of the key's first four powers, 2 KiB, and takes four blocks at a time. It
 /// is for a text of at least 1 KiB, or for a key that is used for several texts.
 ///
-/// Not constant time. Each of the four tables has 256 entries of 16 bytes. Of four blocks, the bytes of the first, XORed with
-/// the sum so far, look up the table of the fourth power; the bytes of the other three, as they are, look up the tables of the
-/// third power, the second and the key. A single block is XORed with the sum and looks up the key's table. So the entries that
-/// are read depend on the key through the sum, and on the text where it is secret, as in POLYVAL. To make the tables of the
-/// powers it looks up the key's table by the bytes of the key and its powers.
+/// It looks them up as [`TableMul`] does, in registers: no address and no branch depends on the key or on the blocks.
 #[derive(Drop)]
 pub struct WideMul {
-    first: Multiples256,
-    second: Multiples256,
-    third: Multiples256,
-    fourth: Multiples256,
+    first: TableMul,
+    second: TableMul,
+    third: TableMul,
+    fourth: TableMul,
     ghost second_power: { IsReduced (power (of_word first.word) 2) second.word },
     ghost third_power: { IsReduced (power (of_word first.word) 3) third.word },
     ghost fourth_power: { IsReduced (power (of_word first.word) 4) fourth.word },
 }
 
-impl WideMul {
-    // XORs the multiples of the four powers by four bytes, the fourth power first.
+// Four words as the indices of look-ups, one by one and in pairs. Each build uses one of these, and the other is not computed.
+#[derive(Drop, Clone, Copy)]
+struct FourWords {
+    fourth: Nibbles,
+    third: Nibbles,
+    second: Nibbles,
+    first: Nibbles,
+    upper: NibblePairs,
+    lower: NibblePairs,
+    ghost upper_first: { upper.first ≡ fourth.word },
+    ghost upper_second: { upper.second ≡ third.word },
+    ghost lower_first: { lower.first ≡ second.word },
+    ghost lower_second: { lower.second ≡ first.word },
+}
+
+impl FourWords {
+    // The word for the fourth power comes first.
     #[inline(always)]
-    fn four_multiples(&self, a: u8, b: u8, c: u8, d: u8) -> Lanes
-        ensures { let s = self.now in
-            IsReduced (products 8 ((a, s.fourth.word) ∷ (b, s.third.word) ∷ (c, s.second.word)
-            ∷ (d, s.first.word) ∷ []))
-            (le result.bytes) }
+    fn of(a: Lanes, b: Lanes, c: Lanes, d: Lanes) -> FourWords
+        ensures fourth { result.fourth.word ≡ a }
+        ensures third { result.third.word ≡ b }
+        ensures second { result.second.word ≡ c }
+        ensures first { result.first.word ≡ d }
     {
-        let low = self.second.at(c).xor(self.first.at(d));
-        self.fourth.at(a).xor(self.third.at(b).xor(low))
+        FourWords {
+            fourth: Nibbles::of(a),
+            third: Nibbles::of(b),
+            second: Nibbles::of(c),
+            first: Nibbles::of(d),
+            upper: NibblePairs::of(a, b),
+            lower: NibblePairs::of(c, d),
+        }
+    }
+}
+
+impl WideMul {
+    // XORs what the tables of byte `j` of the multiples give for four words, each with the tables of its own power: one word
+    // after the other.
+    #[inline(always)]
+    fn part_by_words(&self, words: FourWords, j: usize) -> Lanes
+        requires { j < 16 }
+        ensures { let s = self.now in le result.bytes
+            ≡ looked_four (looked_word s.fourth.multiples.high s.fourth.multiples.low words.fourth.word.bytes)
+            (looked_word s.third.multiples.high s.third.multiples.low words.third.word.bytes)
+            (looked_word s.second.multiples.high s.second.multiples.low words.second.word.bytes)
+            (looked_word s.first.multiples.high s.first.multiples.low words.first.word.bytes) j }
+    {
+        let fourth = self.fourth.multiples.part(words.fourth, j);
+        let third = self.third.multiples.part(words.third, j);
+        let second = self.second.multiples.part(words.second, j);
+        let first = self.first.multiples.part(words.first, j);
+        let high = fourth.xor(third);
+        let low = second.xor(first);
+        high.xor(low)
     }
 
-    // The sum, not reduced, of a half word times the fourth power of the key, and of half words of three blocks, from byte
-    // `from` on, times the third power, the second and the key. A byte of a block is read from memory, which takes one
-    // instruction; to get it from a word takes two or three.
+    // The same by two words at a time, in vectors of 32 bytes.
     #[inline(always)]
-    fn four_halves<O: HashOrder>(
-        &self,
-        a: u64,
-        b: &[u8; 16],
-        c: &[u8; 16],
-        d: &[u8; 16],
-        from: usize,
-    ) -> Chain
-        requires { from + 8 ≤ 16 }
-        ensures { let s = self.now in let o = O.order in (x y z : ℕ) → of_word x ≡ reading o b.now
-            → of_word y ≡ reading o c.now → of_word z ≡ reading o d.now
-            → IsSpread 64 (products 64 ((a, s.fourth.word) ∷ (x / 2 ^ (8 * from), s.third.word)
-            ∷ (y / 2 ^ (8 * from), s.second.word) ∷ (z / 2 ^ (8 * from), s.first.word) ∷ []))
-            (le result.word.bytes) (le result.spill.bytes / 2 ^ 64) }
+    fn part_by_pairs(&self, words: FourWords, j: usize) -> Lanes
+        requires { j < 16 }
+        ensures { let s = self.now in le result.bytes
+            ≡ looked_four (looked_word s.fourth.multiples.high s.fourth.multiples.low words.fourth.word.bytes)
+            (looked_word s.third.multiples.high s.third.multiples.low words.third.word.bytes)
+            (looked_word s.second.multiples.high s.second.multiples.low words.second.word.bytes)
+            (looked_word s.first.multiples.high s.first.multiples.low words.first.word.bytes) j }
     {
-        let a_bytes = bytes_of(a);
-        let mut sum = Chain::empty();
-        'places: for i in 0..8usize {
-            sum = sum.take_eight(self.four_multiples(
-                a_bytes[i],
-                O::byte_at(b, from + i),
-                O::byte_at(c, from + i),
-                O::byte_at(d, from + i),
-            ));
+        let fourth = &self.fourth.multiples;
+        let third = &self.third.multiples;
+        let second = &self.second.multiples;
+        let first = &self.first.multiples;
+        let fourth_high = fourth.high_table(j);
+        let fourth_low = fourth.low_table(j);
+        let third_high = third.high_table(j);
+        let third_low = third.low_table(j);
+        let second_high = second.high_table(j);
+        let second_low = second.low_table(j);
+        let first_high = first.high_table(j);
+        let first_low = first.low_table(j);
+        let upper = words
+            .upper
+            .look(fourth_high, fourth_low, third_high, third_low);
+        let lower = words
+            .lower
+            .look(second_high, second_low, first_high, first_low);
+        upper.xor(lower)
+    }
+
+    // The form that the processor's vectors allow.
+    #[inline(always)]
+    fn part(&self, words: FourWords, j: usize) -> Lanes
+        requires { j < 16 }
+        ensures { let s = self.now in le result.bytes
+            ≡ looked_four (looked_word s.fourth.multiples.high s.fourth.multiples.low words.fourth.word.bytes)
+            (looked_word s.third.multiples.high s.third.multiples.low words.third.word.bytes)
+            (looked_word s.second.multiples.high s.second.multiples.low words.second.word.bytes)
+            (looked_word s.first.multiples.high s.first.multiples.low words.first.word.bytes) j }
+    {
+        if WIDE {
+            self.part_by_pairs(words, j)
+        } else {
+            self.part_by_words(words, j)
         }
-        sum
+    }
+
+    // The sum of four words times four powers of the key, the fourth power first.
+    #[inline(always)]
+    fn times_lanes(&self, a: Lanes, b: Lanes, c: Lanes, d: Lanes) -> u128
+        ensures { IsFourProducts (le a.bytes) (le b.bytes) (le c.bytes) (le d.bytes) (to_be_bytes w128 self.now.first.word) result }
+    {
+        self.first.multiples.bytes_known();
+        self.second.multiples.bytes_known();
+        self.third.multiples.bytes_known();
+        self.fourth.multiples.bytes_known();
+        let words = FourWords::of(a, b, c, d);
+        let mut sum = Placed::none();
+        'low: for j in 0..7usize {
+            sum = sum.low(self.part(words, j), 8 * j as u64 + 8);
+        }
+        let seventh = self.part(words, 7);
+        sum = sum.middle(seventh);
+        'high: for j in 0..7usize {
+            sum = sum.high(self.part(words, j + 8), 8 * j as u64 + 8);
+        }
+        let last = self.part(words, 15);
+        sum.reduce_with(last)
     }
 }
 
@@ -84,7 +162,7 @@ impl Multiply for WideMul {
     ghost key_bytes = { λ s. to_be_bytes w128 s.first.word };
 
     fn times(&self, x: &Block) -> Block {
-        self.first.times_block(x)
+        self.first.times(x)
     }
 
     fn times_word(&self, x: u128) -> u128 {
@@ -94,15 +172,19 @@ impl Multiply for WideMul {
     #[inline(always)]
     fn times_blocks<O: HashOrder>(&self, sum: u128, blocks: &[[u8; 16]; 4]) -> u128 {
         let first = sum ^ O::word_of(&blocks[0]);
-        let (b, c, d) = (&blocks[1], &blocks[2], &blocks[3]);
-        let high = self.four_halves::<O>(high_half(first), b, c, d, 8);
-        let low = self.four_halves::<O>(low_half(first), b, c, d, 0);
-        high.reduce_with(low.reduce())
+        let second = O::word_of(&blocks[1]);
+        let third = O::word_of(&blocks[2]);
+        let fourth = O::word_of(&blocks[3]);
+        let a = Lanes::of(first);
+        let b = Lanes::of(second);
+        let c = Lanes::of(third);
+        let d = Lanes::of(fourth);
+        self.times_lanes(a, b, c, d)
     }
 }
 
 impl Keyed128 for WideMul {
-    // Inlined, since a call would move the 16 KiB twice.
+    // Inlined, since a call would move the tables twice.
     #[inline(always)]
     fn of(key: &Block) -> WideMul {
         let mut multiplier = WideMul::none();
@@ -114,21 +196,21 @@ impl Keyed128 for WideMul {
     #[inline(always)]
     fn none() -> WideMul {
         WideMul {
-            first: Multiples256::none(),
-            second: Multiples256::none(),
-            third: Multiples256::none(),
-            fourth: Multiples256::none(),
+            first: TableMul::of_zero(),
+            second: TableMul::of_zero(),
+            third: TableMul::of_zero(),
+            fourth: TableMul::of_zero(),
         }
     }
 
     fn set(&mut self, key: &Block) {
         let word = word_of(key.bytes());
-        self.first.set(word);
+        self.first.set_word(word);
         let second = self.first.times_word(word);
         let third = self.first.times_word(second);
         let fourth = self.first.times_word(third);
-        self.second.set(second);
-        self.third.set(third);
-        self.fourth.set(fourth);
+        self.second.set_word(second);
+        self.third.set_word(third);
+        self.fourth.set_word(fourth);
     }
 }

@@ -13,7 +13,7 @@ use Rattle.gf128.specs.declared.table_mul.TableMul.{TableMul}
 
 -- the key of a `TableMul`, as a block
 abbrev pub key_of : TableMul → List ℕ
-key_of s = to_be_bytes w128 s.multiples.word
+key_of s = to_be_bytes w128 s.word
 
 -- s has absorbed the whole blocks m under the key h
 pub record SumHolds {M O : Type 0} (order : Order) (key : M → List ℕ) (s : BlockSum M O) (h : List ℕ)

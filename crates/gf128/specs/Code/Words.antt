@@ -1,9 +1,10 @@
 -- Words of 128 bits as polynomials.
-use Rattle.std.specs.Prelude.{◌≡◌, ℕ, ◌+◌, ◌-◌, ◌*◌, ◌/◌, ◌%◌, ◌^◌, ◌≤◌, Bool, false, List, [], ◌∷◌, ◌++◌}
+use Rattle.std.specs.Prelude.{ℕ, ◌+◌, ◌-◌, ◌*◌, ◌/◌, ◌%◌, ◌^◌, Bool, false, List, [], ◌∷◌, ◌++◌}
 use Rattle.std.specs.Prelude.{◌<◌, get_or, slice_index, map, replicate, bit_xor}
 use Rattle.std.specs.List.{range_with_len}
+use Rattle.octets.specs.Bytes.{le}
 use Rattle.octets.specs.Bits.{bit, g}
-use Rattle.octets.specs.Polynomial.{coefficient, Agree, sum, product, power, sum_of_first, residue}
+use Rattle.octets.specs.Polynomial.{Agree, sum, product, power, sum_of_first, residue}
 use Rattle.octets.specs.Polynomial.{IsTheResidue}
 use Rattle.gf128.specs.Ghash.{ghash_modulus}
 
@@ -32,10 +33,6 @@ abbrev pub AreMultiples : List Bool → (ℕ → ℕ) → (ℕ → ℕ) → Type
 AreMultiples p high low =
     (n : ℕ) → n < 256 → IsReduced (product (of_bits 8 n) p) (bit_xor (high (n / 16)) (low (n % 16)))
 
--- number i of a table that is stored in halves of 64 bits, the low half of each number first
-abbrev pub stored_number : List ℕ → ℕ → ℕ
-stored_number halves i = slice_index halves (2 * i + 1) * 2 ^ 64 + slice_index halves (2 * i)
-
 -- the word z is x^w times the word h
 abbrev pub IsMoved : ℕ → ℕ → ℕ → Type 0
 IsMoved w h z = IsReduced (replicate w false ++ of_word h) z
@@ -60,17 +57,49 @@ reduction = 0xe1000000000000000000000000000000
 abbrev pub times_x : ℕ → ℕ
 times_x n = bit_xor (n / 2) (n % 2 * reduction)
 
--- the word z and x^128 times the half word s, reduced
-abbrev pub folded : ℕ → ℕ → ℕ
-folded z s =
-    let f : ℕ = s * 2 ^ 64 in
-    bit_xor z (bit_xor f (bit_xor (f / 2 ^ 1) (bit_xor (f / 2 ^ 2) (f / 2 ^ 7))))
+-- the word n with each of its two lanes of 64 bits shifted up by c places
+abbrev pub lanes_up : ℕ → ℕ → ℕ
+lanes_up c n = n % 2 ^ 64 * 2 ^ c % 2 ^ 64 + 2 ^ 64 * (n / 2 ^ 64 * 2 ^ c % 2 ^ 64)
 
--- the word z and x^128 times the half word s, not reduced
-abbrev pub wide : ℕ → ℕ → List Bool
-wide z s = of_word z ++ of_bits 64 s
+-- the word n with each of its two lanes of 64 bits shifted down by c places
+abbrev pub lanes_down : ℕ → ℕ → ℕ
+lanes_down c n = n % 2 ^ 64 / 2 ^ c + 2 ^ 64 * (n / 2 ^ 64 / 2 ^ c)
 
--- the word and x^128 times the half word have the residue of p, and together are of degree below 128 + d
-abbrev pub IsSpread : ℕ → List Bool → ℕ → ℕ → Type 0
-IsSpread d p z s = ((k : ℕ) → 128 + d ≤ k → coefficient (wide z s) k ≡ false)
-    × (coefficient (residue ghash_modulus (wide z s)) ≡ coefficient (residue ghash_modulus p))
+-- the number of 256 bits that three words make, the second one moved up by 64 places and the third by 128
+abbrev pub total : ℕ → ℕ → ℕ → ℕ
+total a b c = bit_xor a (bit_xor (b * 2 ^ 64) (c * 2 ^ 128))
+
+-- a number of 256 bits, reduced: the bit of weight 2^255 is the coefficient of x^0, and those of weight below 2^7 are 0
+abbrev pub folded_wide : ℕ → ℕ
+folded_wide n =
+    let f : ℕ = n % 2 ^ 128 in
+    bit_xor (n / 2 ^ 128) (bit_xor f (bit_xor (f / 2 ^ 1) (bit_xor (f / 2 ^ 2) (f / 2 ^ 7))))
+
+-- what a pair of tables of sixteen bytes gives for the high and the low four bits of each of sixteen bytes
+unfoldable pub looked_up : List ℕ → List ℕ → List ℕ → List ℕ
+looked_up high low x =
+    map (λ p. bit_xor (get_or high (slice_index x p / 16) 0) (get_or low (slice_index x p % 16) 0)) (range_with_len 0 16)
+
+-- the table at an index
+abbrev pub table_at : List (List ℕ) → ℕ → List ℕ
+table_at tables j = get_or tables j []
+
+-- entry n of sixteen tables: byte j of the number is byte n of table j
+unfoldable pub entry : List (List ℕ) → ℕ → ℕ
+entry tables n = le (map (λ j. get_or (table_at tables j) n 0) (range_with_len 0 16))
+
+-- all entries of all tables are bytes
+abbrev pub AreBytes : List (List ℕ) → Type 0
+AreBytes tables = (j n : ℕ) → get_or (table_at tables j) n 0 < 256
+
+-- the sum of those of four numbers at which n has a bit, that of weight 8 for the first one
+abbrev pub mixed : ℕ → ℕ → ℕ → ℕ → ℕ → ℕ
+mixed n a b c d = bit_xor (bit_xor (n / 4 / 2 * a) (n / 4 % 2 * b)) (bit_xor (n % 4 / 2 * c) (n % 4 % 2 * d))
+
+-- the word that tables at index j give for the bytes x
+abbrev pub looked_word : List (List ℕ) → List (List ℕ) → List ℕ → ℕ → ℕ
+looked_word high low x j = le (looked_up (table_at high j) (table_at low j) x)
+
+-- the sum of the words that the tables at index j of four multipliers give, each for bytes of its own
+abbrev pub looked_four : (ℕ → ℕ) → (ℕ → ℕ) → (ℕ → ℕ) → (ℕ → ℕ) → ℕ → ℕ
+looked_four p q r s j = bit_xor (bit_xor (p j) (q j)) (bit_xor (r j) (s j))

@@ -1,35 +1,36 @@
-use Rattle.std.proofs.Common.{ℕ, ◌^◌, ◌<◌, ◌∙◌, ap, sym, arith, subst, ◌+◌, bit_xor}
+use Rattle.std.proofs.Common.{ℕ, ◌^◌, ◌*◌, ◌/◌, ◌%◌, ◌<◌, ◌∙◌, ap, sym, arith, subst, ◌+◌, bit_xor, rules}
+use Rattle.std.proofs.lemmas.Nat.{xor_lt}
 use Rattle.std.specs.Int.{w128, to_be_bytes}
 use Rattle.octets.specs.Bits.{g}
-use Rattle.gf128.proofs.WordLemmas.{IsSoFar, so_far_none, so_far_set, so_far_clear, so_far_all}
+use Rattle.gf128.proofs.WordLemmas.{IsSoFar, so_far_none, so_far_bit, so_far_all, bit_times_lt}
 use Rattle.gf128.proofs.WordLemmas.{block_product}
 use Rattle.gf128.proofs.bit_mul.BitMulMultiply.times.Goals as goal
-use Rattle.gf128.proofs.bit_mul.BitMulMultiply.times.Goals.{then-factor-i-eq1, else-factor-i-eq1}
 
 pub bits-init : goal.bits-init
-bits-init c = so_far_none c.word_of-factor.result c.args.self.now.key
+bits-init c = (omega arith, so_far_none c.word_of-factor.result c.args.self.now.key)
 
 pub bits-preserved : goal.bits-preserved
 bits-preserved c =
     let f : ℕ = c.word_of-factor.result in
     let h : ℕ = c.args.self.now.key in
-    let small : c.bits.product < 2 ^ 128 = omega arith in
-    let at : ℕ → Type 0 = λ p. IsSoFar f h (c.bits.i + 1) p in
-    elim c.if-factor-i-eq1.branch [
-      | then-factor-i-eq1 w ↦
-          subst at (sym (w.product-is ∙ ap (λ (x : ℕ). bit_xor x h) c.times_x-product.ensures))
-          (so_far_set f h c.bits.i c.bits.product c.bits-test.true small w.if-factor-i-eq1.true
-          c.bits.invariant)
-      | else-factor-i-eq1 w ↦
-          subst at (sym (w.product-is ∙ c.times_x-product.ensures))
-          (so_far_clear f h c.bits.i c.bits.product c.bits-test.true small w.if-factor-i-eq1.false
-          c.bits.invariant)
-    ]
+    let b : ℕ = f / 2 ^ c.bits.i % 2 in
+    let moved : c.times_x.result < 2 ^ 128 = search rules in
+    let all : bit_xor c.times_x.result (b * h) < 2 ^ 128 =
+    xor_lt 128 c.times_x.result (b * h) moved (bit_times_lt b h (omega arith) (search rules)) in (
+      all,
+      subst (λ (t : ℕ). IsSoFar f h (c.bits.i + 1) (bit_xor t (b * h))) (sym c.times_x.ensures)
+          (so_far_bit f h c.bits.i c.bits.product c.bits-test.true c.bits.invariant.0 c.bits.invariant.1),
+    )
+
+pub overflow_mul-product : goal.overflow_mul-product
+overflow_mul-product c =
+    let b : ℕ = c.word_of-factor.result / 2 ^ c.bits.i % 2 in
+    record { fits = bit_times_lt b c.args.self.now.key (omega arith) (search rules) }
 
 pub returns-clause-value : goal.returns-clause-value
 returns-clause-value c =
     let h : ℕ = c.args.self.now.key in
     block_product c.word_of-factor.result c.bits.product c.args.x.now (to_be_bytes w128 h) c.block_of.result
     (c.word_of-factor.ensures ∙ ap g c.bytes.ensures.value)
-    (so_far_all c.word_of-factor.result h c.bits.i c.bits.product (omega arith) c.bits.invariant)
+    (so_far_all c.word_of-factor.result h c.bits.i c.bits.product (omega arith) c.bits.invariant.1)
     c.block_of.ensures.value

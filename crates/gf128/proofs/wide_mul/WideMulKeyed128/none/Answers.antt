@@ -13,10 +13,10 @@ invariant_of-result c =
     let second : IsReduced (power (of_word 0) 2) 0 = next_power 0 1 0 0 (first_power 0) product in
     let third : IsReduced (power (of_word 0) 3) 0 = next_power 0 2 0 0 second product in
     record {
-      second_power = rw (c.none.ensures, c.none-2.ensures) second;
-      third_power = rw (c.none.ensures, c.none-3.ensures) third;
-      fourth_power = rw (c.none.ensures, c.none-4.ensures) (next_power 0 3 0 0 third product);
+      second_power = rw (c.of_zero.ensures, c.of_zero-2.ensures) second;
+      third_power = rw (c.of_zero.ensures, c.of_zero-3.ensures) third;
+      fourth_power = rw (c.of_zero.ensures, c.of_zero-4.ensures) (next_power 0 3 0 0 third product);
     }
 
 pub returns : goal.returns
-returns c = ap (to_be_bytes w128) c.none.ensures
+returns c = ap (to_be_bytes w128) c.of_zero.ensures

@@ -13,8 +13,8 @@ invariant_of-self c =
     let s : ℕ = c.times_word-second.result in
     let t : ℕ = c.times_word-third.result in
     let u : ℕ = c.times_word-fourth.result in
-    let key : to_be_bytes w128 h ≡ to_be_bytes w128 c.set.new.self.word =
-    ap (to_be_bytes w128) (sym c.set.ensures) in
+    let key : to_be_bytes w128 h ≡ to_be_bytes w128 c.set_word.new.self.word =
+    ap (to_be_bytes w128) (sym c.set_word.ensures) in
     let second : IsReduced (power (of_word h) 2) s = next_power h 1 h s (first_power h)
     (subst (λ (k : List ℕ). IsWordProduct h k s) (sym key) c.times_word-second.ensures) in
     let third : IsReduced (power (of_word h) 3) t = next_power h 2 s t second
@@ -22,13 +22,13 @@ invariant_of-self c =
     let fourth : IsReduced (power (of_word h) 4) u = next_power h 3 t u third
     (subst (λ (k : List ℕ). IsWordProduct t k u) (sym key) c.times_word-fourth.ensures) in
     record {
-      second_power = rw (c.set.ensures, c.set-2.ensures) second;
-      third_power = rw (c.set.ensures, c.set-3.ensures) third;
-      fourth_power = rw (c.set.ensures, c.set-4.ensures) fourth;
+      second_power = rw (c.set_word.ensures, c.set_word-2.ensures) second;
+      third_power = rw (c.set_word.ensures, c.set_word-3.ensures) third;
+      fourth_power = rw (c.set_word.ensures, c.set_word-4.ensures) fourth;
     }
 
 pub returns : goal.returns
 returns c =
-    ap (to_be_bytes w128) c.set.ensures
+    ap (to_be_bytes w128) c.set_word.ensures
     ∙ bytes_of_word c.word_of-word.result c.args.key.now c.bytes.ensures.are_bytes
     (c.word_of-word.ensures ∙ ap g c.bytes.ensures.value)
