@@ -155,7 +155,7 @@ impl KnownBlock {
         if self.is_known && same(&self.block, block.bytes()) {
             return Block::new(self.cipher);
         }
-        key.encrypt(block)
+        key.encrypt_in_registers(block)
     }
 }
 
@@ -197,7 +197,6 @@ struct Counter<C> {
 
 impl<C: Count> Counter<C> {
     ghost use Rattle.aes.specs.Code.Streams.{Makes, Advances, AdvancesFront, KnowsCipher};
-    ghost use Rattle.aes.specs.Code.Lanes.{IsReady};
     ghost use Rattle.aes.specs.Code.Planes.{AreReady, AreMasks, HoldsSixteen};
     ghost use Rattle.aes.specs.Schedule.{schedule, round_count};
 
@@ -279,7 +278,7 @@ impl<C: Count> Counter<C> {
         ensures advances { Advances C.up key.now self.old self.new bytes.old bytes.new }
         ensures used { self.new.used ≡ length bytes.old % 16 }
     {
-        let mask = key.encrypt(&C::block(&self.first, self.block_count));
+        let mask = key.encrypt_in_registers(&C::block(&self.first, self.block_count));
         self.mask_with(mask.bytes(), bytes);
     }
 
@@ -314,14 +313,13 @@ impl<C: Count> Counter<C> {
     }
 
     // XORs in the first bytes of the next four blocks. Every earlier block is used up.
-    fn mask_four(&mut self, key: &AesKey, words: &[[u8; 16]; 15], bytes: &mut [u8])
-        requires ready { IsReady words.now key.now }
+    fn mask_four(&mut self, key: &AesKey, bytes: &mut [u8])
         requires none { self.old.used ≡ 0 }
         requires room { length bytes.old ≤ 64 }
         ensures advances { Advances C.up key.now self.old self.new bytes.old bytes.new }
         ensures used { self.new.used ≡ length bytes.old % 16 }
     {
-        let masks = key.encrypt_ready(words, &self.four());
+        let masks = key.encrypt_four(&self.four());
         self.mask_with(&masks, bytes);
     }
 
@@ -401,11 +399,10 @@ impl<C: Count> Counter<C> {
         if bytes.len() <= FOUR_PAY {
             return 0;
         }
-        let words = key.ready();
         let mut done = 0;
         'fours: while bytes.len() - done > FOUR_PAY {
             let next = (bytes.len() - done).min(64);
-            self.mask_four(key, &words, &mut bytes[done..done + next]);
+            self.mask_four(key, &mut bytes[done..done + next]);
             done += next;
         }
         done
