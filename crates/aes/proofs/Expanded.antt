@@ -1,5 +1,5 @@
 -- An expanded key, and the rounds that use its words.
-use Rattle.std.proofs.Common.{◌≡◌, ℕ, suc, ◌+◌, ◌-◌, ◌*◌, ◌/◌, ◌%◌, ◌^◌, ◌<◌, ◌≤◌, true, ◌&&◌, ◌==◌, ltb, List, [], map}
+use Rattle.std.proofs.Common.{◌≡◌, ℕ, suc, ◌+◌, ◌-◌, ◌*◌, ◌/◌, ◌%◌, ◌<◌, ◌≤◌, true, ◌&&◌, ◌==◌, ltb, List, [], map}
 use Rattle.std.proofs.Common.{get_or, length, drop, refl, sym, ap, ap₂, ◌∙◌, arith, inl, inr, zero-add, bit_xor, add-one}
 use Rattle.std.proofs.Common.{subst, ltb-true}
 use Rattle.std.specs.List.{range_with_len}

@@ -1,15 +1,13 @@
 -- Rounds of one, two or four blocks, byte by byte.
-use Rattle.std.proofs.Common.{◌≡◌, ℕ, zero, suc, ◌+◌, ◌*◌, ◌/◌, ◌%◌, ◌^◌, ◌<◌, ◌≤◌, true, ◌&&◌, ◌==◌, List}
-use Rattle.std.proofs.Common.{[], ◌∷◌, get_or, length, replicate, refl, sym, ap, ap₂, ◌∙◌, arith, bit_xor}
+use Rattle.std.proofs.Common.{◌≡◌, ℕ, zero, suc, ◌+◌, ◌*◌, ◌/◌, ◌%◌, ◌^◌, ◌<◌, true, ◌&&◌, ◌==◌, List}
+use Rattle.std.proofs.Common.{[], ◌∷◌, get_or, length, refl, sym, ap, ap₂, ◌∙◌, arith, bit_xor}
 use Rattle.std.proofs.Common.{zero-add, take, drop, inl, inr}
 use Rattle.std.specs.Int.Bits.{xor_zero_r, xor_comm, xor_assoc}
 use Rattle.std.proofs.lemmas.Nat.{xor_of_8}
 use Rattle.std.proofs.lemmas.Bool.{and_parts, eqb-true, cases_lt}
-use Rattle.std.proofs.lemmas.List.{get_or-replicate, length-replicate, get_or-map, get_or-take, get_or-drop}
+use Rattle.std.proofs.lemmas.List.{get_or-take, get_or-drop}
 use Rattle.std.proofs.lemmas.List.{get_or_past, length-take, length-take-le, length-drop, ext_get_or}
 use Rattle.std.proofs.lemmas.List.FromFn.{get_or-map-range_with_len}
-use Rattle.std.proofs.lemmas.Simd.{get_or_narrower}
-use lib.Lanes.{Each1, number_l, digits_l}
 use Rattle.octets.specs.Bytes.{IsBlock, block_at}
 use Rattle.octets.specs.Polynomial.{product, residue}
 use Rattle.aes.specs.Field.{times, sbox}
@@ -19,7 +17,6 @@ use Rattle.aes.specs.Code.Lanes.{HasLanes, HoldsBlocks, HoldsShifted, byte_of, k
 use Rattle.aes.specs.Code.Lanes.{row_source, row_below, row_above, in_basis, linear_sbox}
 use Rattle.aes.specs.Code.Planes.{word_byte, masked_byte}
 use Rattle.aes.specs.Code.ReadyKeys.{ready_byte}
-use Rattle.aes.specs.Schedule.{round_count, schedule}
 use Rattle.aes.proofs.Tested.{all_below, all_below_at}
 use Rattle.aes.proofs.Multiples.{single_is, triple_is}
 use Rattle.aes.proofs.Rows.{dot_is}
@@ -419,37 +416,36 @@ column_byte w (suc (suc zero)) h = refl
 column_byte w (suc (suc (suc zero))) h = refl
 column_byte w (suc (suc (suc (suc i)))) h = absurd (omega arith)
 
--- ---- four blocks of a list
--- a list of 64 bytes holds its four blocks
-pub holds_self : (m : List ℕ) → length m ≡ 64 → HoldsBlocks 64 m (λ q. block_at m (q % 4))
-holds_self m long = record {
+-- ---- the blocks of a list
+-- a list of b blocks holds them, with any block for a number from b on
+pub holds_self : (b : ℕ) (p : ℕ → ℕ) (m : List ℕ) → length m ≡ 16 * b → ((q : ℕ) → q < b → p q ≡ q)
+    → HoldsBlocks (16 * b) m (λ q. block_at m (p q))
+holds_self b p m long own = record {
   long = long;
   each = λ k l.
-      let q : k / 16 % 4 ≡ k / 16 = omega arith in
       let place : k ≡ k / 16 * 16 + k % 16 = omega arith in
       ap (λ i. get_or m i 0) place ∙ sym (get_or-drop (k / 16 * 16) m (k % 16) 0)
       ∙ sym (get_or-take 16 (drop (k / 16 * 16) m) (k % 16) 0 (omega arith))
-      ∙ ap (λ i. get_or (block_at m i) (k % 16) 0) (sym q);
+      ∙ ap (λ i. get_or (block_at m i) (k % 16) 0) (sym (own (k / 16) (omega arith)));
 }
 
--- each of the four blocks of 64 bytes is a block
-pub block_at_is : (m : List ℕ) (q : ℕ) → length m ≡ 64 → ((i : ℕ) → get_or m i 0 < 256)
-    → IsBlock (block_at m (q % 4))
-block_at_is m q long small = record {
-  length_is = length-take-le 16 (drop (q % 4 * 16) m) (omega (arith, length-drop (q % 4 * 16) m));
+-- each block of a list of b blocks is a block
+pub block_at_is : (b q : ℕ) (m : List ℕ) → length m ≡ 16 * b → ((i : ℕ) → get_or m i 0 < 256) → q < b
+    → IsBlock (block_at m q)
+block_at_is b q m long small h = record {
+  length_is = length-take-le 16 (drop (q * 16) m) (omega (arith, length-drop (q * 16) m));
   bytes = λ i. elim (cases_lt i 16) [
-    | inl l ↦ rw (get_or-take 16 (drop (q % 4 * 16) m) i 0 l, get_or-drop (q % 4 * 16) m i 0)
-        (small (q % 4 * 16 + i))
-    | inr g ↦ rw (get_or_past (take 16 (drop (q % 4 * 16) m)) i 0
-        (omega (arith, length-take 16 (drop (q % 4 * 16) m)))) (omega arith)
+    | inl l ↦ rw (get_or-take 16 (drop (q * 16) m) i 0 l, get_or-drop (q * 16) m i 0) (small (q * 16 + i))
+    | inr g ↦ rw (get_or_past (take 16 (drop (q * 16) m)) i 0
+        (omega (arith, length-take 16 (drop (q * 16) m)))) (omega arith)
   ];
 }
 
 -- block q of a vector that holds blocks is the block that it holds
-pub block_held : (v : List ℕ) (f : ℕ → List ℕ) (q : ℕ) → HoldsBlocks 64 v f → q < 4 → length (f q) ≡ 16
+pub block_held : (b : ℕ) (v : List ℕ) (f : ℕ → List ℕ) (q : ℕ) → HoldsBlocks (16 * b) v f → q < b → length (f q) ≡ 16
     → block_at v q ≡ f q
-block_held v f q held h long =
-    let all : length v ≡ 64 = held.long in
+block_held b v f q held h long =
+    let all : length v ≡ 16 * b = held.long in
     ext_get_or 0 (block_at v q) (f q)
     (length-take-le 16 (drop (q * 16) v) (omega (arith, length-drop (q * 16) v)) ∙ sym long) (λ k l.
     let within : k < 16 = omega (arith, length-take 16 (drop (q * 16) v)) in

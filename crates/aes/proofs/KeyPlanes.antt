@@ -1,6 +1,6 @@
 -- Round keys in planes of bits.
-use Rattle.std.proofs.Common.{◌≡◌, ℕ, zero, suc, ◌+◌, ◌-◌, ◌*◌, ◌/◌, ◌%◌, ◌^◌, ◌<◌, true, ◌&&◌, ◌==◌, ltb, List, []}
-use Rattle.std.proofs.Common.{◌∷◌, ◌++◌, map, get_or, length, replicate, refl, sym, ap, ◌∙◌, arith, bit_and, bit_xor}
+use Rattle.std.proofs.Common.{◌≡◌, ℕ, zero, suc, ◌+◌, ◌-◌, ◌/◌, ◌%◌, ◌^◌, ◌<◌, true, ◌&&◌, ◌==◌, ltb, List, []}
+use Rattle.std.proofs.Common.{◌∷◌, ◌++◌, map, get_or, length, replicate, refl, sym, ap, ◌∙◌, arith, bit_and}
 use Rattle.std.proofs.Common.{ltb-true}
 use Rattle.std.specs.Int.{bit_at}
 use Rattle.std.proofs.lemmas.Nat.Bits.{bit_at-zero, bit_at_ones, bit_at-lt, shr_and_one}

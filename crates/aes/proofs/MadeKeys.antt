@@ -6,18 +6,17 @@ use Rattle.std.proofs.lemmas.Nat.{xor_of_8}
 use Rattle.std.proofs.lemmas.Bool.{cases_eq, cases_lt, eqb-true}
 use Rattle.std.proofs.lemmas.List.{ext_get_or, get_or-map, get_or-replicate, length-replicate, length-set}
 use Rattle.std.proofs.lemmas.List.{get_or-set_same, get_or-set_other, length-map}
-use Rattle.aes.specs.Cipher.{IsKey}
 use Rattle.aes.specs.Field.{sbox}
 use Rattle.aes.specs.Schedule.{schedule, key_words, round_count, rcon, temp, word}
 use Rattle.aes.specs.Code.Columns.{column_of, columns_of, state_of}
-use Rattle.aes.specs.Code.Lanes.{in_basis, linear_sbox, row_source, row_target, byte_from, HasLanes, HoldsWords, Follows}
+use Rattle.aes.specs.Code.Lanes.{in_basis, linear_sbox, row_source, row_target, HasLanes, HoldsWords, Follows}
 use Rattle.aes.specs.Code.Lanes.{AreBytes}
 use Rattle.aes.specs.Code.Planes.{word_byte, masked_byte, spot}
 use Rattle.aes.specs.Code.ReadyKeys.{ready_byte, KeepsReadyKeys}
 use Rattle.aes.specs.declared.schedule.TheConstants.{ROUND_CONSTANTS}
 use Rattle.aes.proofs.Tested.{all_below, all_below_at}
 use Rattle.aes.proofs.Rows.{constants, rcon_is}
-use Rattle.aes.proofs.Steps.{AreWords, sbox_small, quad}
+use Rattle.aes.proofs.Steps.{sbox_small, quad}
 use Rattle.aes.proofs.Permutation.{words_are, rcon_is_word}
 use Rattle.aes.proofs.FourBlocks.{in_basis_xor, linear_small}
 use Rattle.aes.proofs.FourRounds.{lane_last, constant_in_basis}

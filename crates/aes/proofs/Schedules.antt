@@ -1,22 +1,19 @@
 -- The key schedule, four words at once.
-use Rattle.std.proofs.Common.{◌≡◌, ℕ, zero, suc, ◌+◌, ◌-◌, ◌*◌, ◌/◌, ◌%◌, ◌<◌, ◌≤◌, true, ◌&&◌, ◌==◌, ltb, List, []}
-use Rattle.std.proofs.Common.{◌∷◌, ◌++◌, map, get_or, length, replicate, take, drop, inl, inr, refl, sym, ap, ap₂, subst}
-use Rattle.std.proofs.Common.{◌∙◌, arith, bit_xor, zero-add, ltb-true}
+use Rattle.std.proofs.Common.{◌≡◌, ℕ, zero, suc, ◌+◌, ◌-◌, ◌*◌, ◌/◌, ◌%◌, ◌<◌, ◌≤◌, true, ◌==◌, List, []}
+use Rattle.std.proofs.Common.{◌++◌, map, get_or, length, replicate, drop, inl, inr, refl, sym, ap, ap₂, subst}
+use Rattle.std.proofs.Common.{◌∙◌, arith, bit_xor, zero-add}
 use Rattle.std.specs.Int.Bits.{xor_assoc, xor_zero_r}
-use Rattle.std.proofs.lemmas.Nat.{xor_of_8}
-use Rattle.std.proofs.lemmas.Bool.{and_parts, cases_lt, eqb-true}
+use Rattle.std.proofs.lemmas.Bool.{cases_lt, eqb-true}
 use Rattle.std.proofs.lemmas.List.{get_or-map, get_or-take, get_or-drop, length-take-le, length-drop}
 use Rattle.std.proofs.lemmas.List.{get_or_append_left, get_or-append-add, get_or-replicate, length-replicate}
 use Rattle.std.proofs.lemmas.List.FromFn.{get_or-map-range_with_len}
 use Rattle.std.proofs.lemmas.Simd.{length-zip2, get_or-zip2}
 use lib.Lanes.{zip2}
-use Rattle.octets.specs.Bits.{number}
 use Rattle.aes.specs.Field.{sbox}
-use Rattle.aes.specs.Cipher.{IsKey}
-use Rattle.aes.specs.Schedule.{schedule, key_words, round_count, xor_word, sub_word, rot_word, rcon, temp, word, words}
-use Rattle.aes.specs.Code.Lanes.{in_basis, row_source, byte_from, HoldsWords, HasSums, Follows, AreBytes}
+use Rattle.aes.specs.Schedule.{schedule, key_words, round_count, xor_word, sub_word, rot_word, rcon, temp, word}
+use Rattle.aes.specs.Code.Lanes.{in_basis, byte_from, HoldsWords, HasSums, Follows, AreBytes}
 use Rattle.aes.proofs.Tested.{all_below, all_below_at}
-use Rattle.aes.proofs.Words.{words_at, word_start, meets_recurrence, temp_first, temp_fourth, temp_other}
+use Rattle.aes.proofs.Words.{meets_recurrence, temp_first, temp_fourth, temp_other}
 use Rattle.aes.proofs.FourBlocks.{in_basis_xor}
 
 -- a predicate that holds in each of four words holds of each of sixteen bytes

@@ -8,10 +8,9 @@ use Rattle.octets.specs.Bytes.{IsBlock}
 use Rattle.aes.specs.Field.{times, sbox}
 use Rattle.aes.specs.Cipher.{sub_bytes, shift_rows, mix_columns, add_round_key}
 use Rattle.aes.specs.Code.Lanes.{linear_sbox, key_byte, row_source, row_below}
-use Rattle.std.proofs.Common.{drop, subst, ◌≤◌}
+use Rattle.std.proofs.Common.{drop}
 use Rattle.std.proofs.lemmas.List.{get_or-drop}
-use Rattle.aes.specs.Schedule.{round_count, schedule}
-use Rattle.aes.specs.Code.Planes.{HoldsLanes, HoldsWords, block_byte, spot, word_byte, masked_byte, AreReady}
+use Rattle.aes.specs.Code.Planes.{HoldsLanes, HoldsWords, block_byte, spot, word_byte, masked_byte}
 use Rattle.aes.specs.declared.planes.TheConstants.{SHIFTED, SHIFTED_OUT, BELOW, TWO_BELOW}
 use Rattle.aes.proofs.Tested.{all_below, all_below_at}
 use Rattle.aes.proofs.Multiples.{triple_is}

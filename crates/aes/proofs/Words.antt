@@ -1,15 +1,14 @@
 -- The words of a schedule.
-use Rattle.std.proofs.Common.{◌≡◌, ℕ, zero, suc, ◌+◌, ◌-◌, ◌*◌, ◌/◌, ◌%◌, ◌^◌, ◌<◌, ◌≤◌, cond, ◌==◌, ◌&&◌}
-use Rattle.std.proofs.Common.{List, [], ◌∷◌, ◌++◌, take, drop, get_or, length, flat_map, replicate, set, inl}
-use Rattle.std.proofs.Common.{inr, refl, sym, ap, ap₂, ◌∙◌, arith, lt-ltb, le-ltb, take-add, add-one}
+use Rattle.std.proofs.Common.{◌≡◌, ℕ, zero, suc, ◌+◌, ◌-◌, ◌*◌, ◌/◌, ◌%◌, ◌<◌, ◌≤◌, cond, ◌==◌, ◌&&◌}
+use Rattle.std.proofs.Common.{List, [], ◌∷◌, take, drop, get_or, length, set, inl}
+use Rattle.std.proofs.Common.{inr, refl, sym, ap, ap₂, ◌∙◌, arith, lt-ltb, le-ltb, add-one}
 use Rattle.std.proofs.lemmas.Bool.{cases_eq, cases_lt, and_parts, false_from_ne_true, eq-eqb, ne_eqb}
 use Rattle.std.proofs.lemmas.Bool.{eqb-true}
-use Rattle.std.proofs.lemmas.List.{get_or_append_left, get_or_push, get_or-append_right, get_or-replicate}
-use Rattle.std.proofs.lemmas.List.{length-replicate, length-append, ext_get_or, length_push, drop_more}
-use Rattle.std.proofs.lemmas.List.{flat_map_more, take_more, get_or-set_same, get_or-set_other, get_or-map}
-use Rattle.std.proofs.lemmas.List.{length-map, get_or_past}
-use Rattle.aes.specs.Code.Columns.{column_of, columns_of}
-use Rattle.aes.specs.Schedule.{schedule, xor_word, key_words, temp, next_word, words, sub_word, rot_word}
+use Rattle.std.proofs.lemmas.List.{get_or_append_left, get_or_push}
+use Rattle.std.proofs.lemmas.List.{length_push, drop_more}
+use Rattle.std.proofs.lemmas.List.{get_or-set_same, get_or-set_other}
+use Rattle.aes.specs.Code.Columns.{column_of}
+use Rattle.aes.specs.Schedule.{xor_word, key_words, temp, next_word, words, sub_word, rot_word}
 use Rattle.aes.specs.Schedule.{rcon, round_count, MeetsRecurrence}
 
 -- `words key n` has n words

@@ -33,6 +33,15 @@ fn concat(a: &[u8; 16], b: &[u8; 16], c: &[u8; 16], d: &[u8; 16]) -> [u8; 64]
     four
 }
 
+// Concatenates two blocks.
+fn concat_two(a: &[u8; 16], b: &[u8; 16]) -> [u8; 32]
+    ensures { result ≡ a.now ++ b.now }
+{
+    let mut two = [0; 32];
+    two.copy_from_slice([*a, *b].as_flattened());
+    two
+}
+
 // XORs sixteen blocks, given in fours, into 256 bytes. All lengths are constants, so that the blocks stay in registers.
 #[inline(always)]
 fn xor_fours(bytes: &mut [u8], a: &[u8; 64], b: &[u8; 64], c: &[u8; 64], d: &[u8; 64])
@@ -294,6 +303,16 @@ impl<C: Count> Counter<C> {
         concat(first.bytes(), second.bytes(), third.bytes(), fourth.bytes())
     }
 
+    // The next two counter blocks.
+    #[inline(always)]
+    fn two(&self) -> [u8; 32]
+        ensures { (q : ℕ) → q < 2 → block_at result q ≡ C.up self.now.first ((self.now.block_count + q) % 2 ^ 32) }
+    {
+        let first = C::block(&self.first, self.block_count);
+        let second = C::block(&self.first, self.block_count.wrapping_add(1));
+        concat_two(first.bytes(), second.bytes())
+    }
+
     // The next sixteen counter blocks, in planes. Up to the block where the low half of the byte at `LOW` passes 15 they differ
     // only in that half, and so do the blocks from there on. So two blocks and a number determine all sixteen.
     #[inline(always)]
@@ -310,6 +329,17 @@ impl<C: Count> Counter<C> {
             low,
             C::LOW,
         )
+    }
+
+    // XORs in the first bytes of the next two blocks. Every earlier block is used up.
+    fn mask_two(&mut self, key: &AesKey, bytes: &mut [u8])
+        requires none { self.old.used ≡ 0 }
+        requires room { length bytes.old ≤ 32 }
+        ensures advances { Advances C.up key.now self.old self.new bytes.old bytes.new }
+        ensures used { self.new.used ≡ length bytes.old % 16 }
+    {
+        let masks = key.encrypt_two(&self.two());
+        self.mask_with(&masks, bytes);
     }
 
     // XORs in the first bytes of the next four blocks. Every earlier block is used up.
@@ -427,12 +457,17 @@ impl<C: Count> Counter<C> {
         done + self.apply_fours(key, &mut bytes[done..])
     }
 
-    // XORs in runs of blocks and then single blocks, the last one perhaps in part. Every earlier block is used up.
+    // XORs in runs of blocks, then pairs and single blocks, the last one perhaps in part. Every earlier block is used up.
     fn apply_blocks(&mut self, key: &AesKey, bytes: &mut [u8])
         requires { self.old.used ≡ 0 }
         ensures { Advances C.up key.now self.old self.new bytes.old bytes.new }
     {
         let mut done = self.apply_runs(key, bytes);
+        'pairs: while bytes.len() - done > 16 {
+            let next = (bytes.len() - done).min(32);
+            self.mask_two(key, &mut bytes[done..done + next]);
+            done += next;
+        }
         'singles: while done < bytes.len() {
             let next = (bytes.len() - done).min(16);
             self.mask_block(key, &mut bytes[done..done + next]);

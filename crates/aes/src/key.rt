@@ -1,4 +1,4 @@
-//! An expanded key, and the cipher under it (FIPS 197, 5.1 and 5.2), on one block, or four, eight or sixteen at once.
+//! An expanded key, and the cipher under it (FIPS 197, 5.1 and 5.2), on one block, or two, four, eight or sixteen at once.
 
 ghost use Rattle.std.specs.Prelude.{◌≡◌, ℕ, ◌≤◌, ◌<◌, ◌+◌, ◌*◌, ◌/◌, ◌%◌, length, slice_index, slice_index_or, get_or, List, []};
 ghost use Rattle.std.specs.Prelude.{MatchResult};
@@ -22,11 +22,11 @@ use crate::schedule::expand;
 use octets::{Block, Fault, Key16, Key24, Key32, WIDE};
 use std::marker::Model;
 use std::simd::prelude::*;
-use std::simd::{u8x16, u8x64};
+use std::simd::{u8x16, u8x32, u8x64};
 
 /// A key of AES with its round keys (FIPS 197, 5.2). Contracts see the key's bytes: 16, 24 or 32.
 ///
-/// Making a key, `encrypt_in_registers` and `encrypt_four` have their tables of 16 bytes in vectors: no branch and no address in
+/// Making a key, `encrypt_in_registers`, `encrypt_two` and `encrypt_four` have their tables of 16 bytes in vectors: no branch and no address in
 /// memory depends on a byte of the key or of a block.
 ///
 /// `encrypt` is not constant time: it looks up four tables of 256 words, 4 KiB in all, by each byte of the state in each round;
@@ -266,6 +266,15 @@ impl AesKey {
             self.encrypt_lanes(u8x16::from_array(*block.bytes()))
                 .to_array(),
         )
+    }
+
+    /// Returns the ciphers of two concatenated blocks, each of 16 bytes (FIPS 197, 5.1). It looks up no table in memory: its
+    /// tables of 16 bytes are vectors, as are the bytes that index them.
+    pub fn encrypt_two(&self, blocks: &[u8; 32]) -> [u8; 32]
+        ensures { (q : ℕ) → q < 2 → block_at result q ≡ cipher self.now (block_at blocks.now q) }
+    {
+        self.is_key();
+        self.encrypt_lanes(u8x32::from_array(*blocks)).to_array()
     }
 
     /// Returns the ciphers of four concatenated blocks, each of 16 bytes (FIPS 197, 5.1). It looks up no table in memory: its

@@ -14,7 +14,7 @@ ghost use Rattle.aes.specs.Code.Planes.{word_byte, masked_byte};
 ghost use Rattle.aes.specs.Code.ReadyKeys.{ready_byte};
 
 use std::simd::prelude::*;
-use std::simd::{u8x16, u8x64};
+use std::simd::{u8x16, u8x32, u8x64};
 
 // The bytes below 16, in the basis.
 const TO_LOW: [u8; 16] = [
@@ -112,6 +112,27 @@ const ONE_ROWS_BELOW: [usize; 16] = [1, 2, 3, 0, 5, 6, 7, 4, 9, 10, 11, 8, 13, 1
 const ONE_SHIFTED_BELOW: [usize; 16] = [1, 6, 11, 12, 5, 10, 15, 0, 9, 14, 3, 4, 13, 2, 7, 8];
 
 const ONE_SHIFTED_ABOVE: [usize; 16] = [3, 4, 9, 14, 7, 8, 13, 2, 11, 12, 1, 6, 15, 0, 5, 10];
+
+// Their first 32 entries, for a vector of two blocks.
+const TWO_ROW_SOURCES: [usize; 32] = [
+    0, 5, 10, 15, 4, 9, 14, 3, 8, 13, 2, 7, 12, 1, 6, 11, 16, 21, 26, 31, 20, 25, 30, 19, 24, 29,
+    18, 23, 28, 17, 22, 27,
+];
+
+const TWO_ROWS_BELOW: [usize; 32] = [
+    1, 2, 3, 0, 5, 6, 7, 4, 9, 10, 11, 8, 13, 14, 15, 12, 17, 18, 19, 16, 21, 22, 23, 20, 25, 26,
+    27, 24, 29, 30, 31, 28,
+];
+
+const TWO_SHIFTED_BELOW: [usize; 32] = [
+    1, 6, 11, 12, 5, 10, 15, 0, 9, 14, 3, 4, 13, 2, 7, 8, 17, 22, 27, 28, 21, 26, 31, 16, 25, 30,
+    19, 20, 29, 18, 23, 24,
+];
+
+const TWO_SHIFTED_ABOVE: [usize; 32] = [
+    3, 4, 9, 14, 7, 8, 13, 2, 11, 12, 1, 6, 15, 0, 5, 10, 19, 20, 25, 30, 23, 24, 29, 18, 27, 28,
+    17, 22, 31, 16, 21, 26,
+];
 
 // A vector of one, two or four blocks.
 pub(crate) trait Lanes: Copy {
@@ -217,6 +238,64 @@ impl Lanes for u8x16 {
     #[inline(always)]
     fn shifted_down(self) -> u8x16 {
         self.swizzle(ONE_SHIFTED_ABOVE)
+    }
+}
+
+impl Lanes for u8x32 {
+    ghost count = { 32 };
+
+    ghost lanes = { λ v. v };
+
+    ghost few = { refl };
+
+    ghost whole = { refl };
+
+    #[inline(always)]
+    fn copies(bytes: [u8; 16]) -> u8x32 {
+        u8x16::from_array(bytes).swizzle([
+            0, 1, 2, 3, 4, 5, 6, 7, 8, 9, 10, 11, 12, 13, 14, 15, 0, 1, 2, 3, 4, 5, 6, 7, 8, 9, 10,
+            11, 12, 13, 14, 15,
+        ])
+    }
+
+    #[inline(always)]
+    fn look_up(table: [u8; 16], at: u8x32) -> u8x32 {
+        u8x32::copies(table).swizzle_dyn_within::<16>(at)
+    }
+
+    #[inline(always)]
+    fn low_nibbles(self) -> u8x32 {
+        self & u8x32::splat(15)
+    }
+
+    #[inline(always)]
+    fn high_nibbles(self) -> u8x32 {
+        self >> u8x32::splat(4)
+    }
+
+    #[inline(always)]
+    fn sum(self, other: u8x32) -> u8x32 {
+        self ^ other
+    }
+
+    #[inline(always)]
+    fn shift_rows(self) -> u8x32 {
+        self.swizzle(TWO_ROW_SOURCES)
+    }
+
+    #[inline(always)]
+    fn rows_up(self) -> u8x32 {
+        self.swizzle(TWO_ROWS_BELOW)
+    }
+
+    #[inline(always)]
+    fn shifted_up(self) -> u8x32 {
+        self.swizzle(TWO_SHIFTED_BELOW)
+    }
+
+    #[inline(always)]
+    fn shifted_down(self) -> u8x32 {
+        self.swizzle(TWO_SHIFTED_ABOVE)
     }
 }
 

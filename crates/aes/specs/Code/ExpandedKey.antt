@@ -1,8 +1,8 @@
 -- The code's form of a key: its round keys, ready for the rounds. The standard does not define it.
-use Rattle.std.specs.Prelude.{◌≡◌, ℕ, ◌+◌, ◌*◌, ◌/◌, ◌%◌, ◌<◌, ◌==◌, nat_lt, if◌then◌else◌, List, [], ◌∷◌, map, length}
+use Rattle.std.specs.Prelude.{◌≡◌, ℕ, ◌*◌, ◌/◌, ◌%◌, ◌<◌, ◌==◌, nat_lt, if◌then◌else◌, List, [], map, length}
 use Rattle.std.specs.Prelude.{get_or, bit_xor, ◌⊎◌}
 use Rattle.std.specs.List.{range_with_len}
-use Rattle.std.proofs.Common.{refl, sym, ap, ap₂, ◌∙◌, lit<, inl, inr, arith, zero-add}
+use Rattle.std.proofs.Common.{sym, ap, ap₂, ◌∙◌, lit<, inl, inr, arith, zero-add}
 use Rattle.std.proofs.Common.{le-ltb, lt-ltb}
 use Rattle.std.proofs.Math.Nat.{mul-div_cancel_left}
 use Rattle.std.proofs.lemmas.Bool.{cases_eq, cases_lt, eq-eqb, ne_eqb}

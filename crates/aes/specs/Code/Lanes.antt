@@ -1,5 +1,5 @@
 -- Blocks in a vector of bytes: one in 16 lanes, two in 32, four in 64; and the bytes of the field in another basis.
-use Rattle.std.specs.Prelude.{◌≤◌, ◌≡◌, ℕ, ◌+◌, ◌*◌, ◌/◌, ◌%◌, ◌<◌, true, ◌||◌, nat_le, nat_lt, List, []}
+use Rattle.std.specs.Prelude.{◌≡◌, ℕ, ◌+◌, ◌*◌, ◌/◌, ◌%◌, ◌<◌, true, ◌||◌, nat_le, nat_lt, List, []}
 use Rattle.std.specs.Prelude.{length, slice_index, slice_index_or, if◌then◌else◌, bit_xor}
 use Rattle.aes.specs.Field.{sbox}
 use Rattle.aes.specs.declared.lanes.TheConstants.{TO_LOW, TO_HIGH, FROM_LOW, FROM_HIGH}

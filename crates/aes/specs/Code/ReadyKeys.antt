@@ -1,7 +1,6 @@
 -- The round keys of a key in the form in which the rounds take them, for a caller that stores them.
-use Rattle.std.specs.Prelude.{◌≡◌, ℕ, ◌-◌, ◌<◌, ◌==◌, nat_lt, if◌then◌else◌, List, [], length, slice_index, slice_index_or, map}
+use Rattle.std.specs.Prelude.{◌≡◌, ℕ, ◌<◌, List, [], length, slice_index, slice_index_or}
 use Rattle.std.specs.Prelude.{bit_xor}
-use Rattle.std.specs.List.{range_with_len}
 use Rattle.aes.specs.Code.Lanes.{in_basis, row_source}
 use Rattle.aes.specs.Code.Planes.{word_byte, masked_byte}
 use Rattle.aes.specs.Schedule.{round_count, schedule}

@@ -1,4 +1,4 @@
-use Rattle.std.proofs.Common.{ℕ, ◌+◌, ◌*◌, ◌/◌, ◌%◌, ◌<◌, bit_xor, arith, rules}
+use Rattle.std.proofs.Common.{◌+◌, ◌*◌, ◌/◌, ◌%◌, arith, rules}
 use Rattle.std.proofs.lemmas.Nat.{xor_of_8}
 use Rattle.aes.specs.Code.Planes.{masked_byte, word_byte, spot}
 use Rattle.aes.proofs.MadeKeys.{middle_lanes}

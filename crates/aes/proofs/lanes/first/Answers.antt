@@ -1,4 +1,4 @@
-use Rattle.std.proofs.Common.{ltb-true, ◌%◌, get_or, bit_xor}
+use Rattle.std.proofs.Common.{◌%◌, get_or, bit_xor}
 use Rattle.aes.specs.Code.Lanes.{in_basis, byte_of, row_source}
 use Rattle.aes.proofs.FourBlocks.{via, via_two}
 use Rattle.aes.proofs.FourRounds.{brought_lanes, source_in, first_lanes}

@@ -1,5 +1,5 @@
 use Rattle.std.proofs.Common.{ltb-true, ◌%◌, get_or, bit_xor, ℕ, ◌/◌}
-use Rattle.aes.specs.Code.Lanes.{in_basis, byte_of, row_source, linear_sbox}
+use Rattle.aes.specs.Code.Lanes.{byte_of, row_source, linear_sbox}
 use Rattle.aes.proofs.FourBlocks.{via_two}
 use Rattle.aes.proofs.FourRounds.{last_lanes}
 use Rattle.aes.proofs.lanes.last.Goals as goal

@@ -1,4 +1,4 @@
-use Rattle.std.proofs.Common.{ℕ, ◌≤◌, List, [], ◌∷◌, refl, ap, ◌∙◌, zero-add, get_or, arith}
+use Rattle.std.proofs.Common.{ℕ, List, [], ◌∷◌, refl, ap, ◌∙◌, zero-add, get_or, arith}
 use Rattle.aes.proofs.Schedules.{from_first, from_second}
 use Rattle.aes.proofs.MadeKeys.{joined_first}
 use Rattle.aes.proofs.schedule.join_first.Goals as goal

@@ -1,4 +1,4 @@
-use Rattle.std.proofs.Common.{ℕ, ◌≤◌, List, [], ◌∷◌, refl, arith}
+use Rattle.std.proofs.Common.{ℕ, List, [], ◌∷◌, refl, arith}
 use Rattle.aes.proofs.Schedules.{from_first, from_second}
 use Rattle.aes.proofs.MadeKeys.{joined_last}
 use Rattle.aes.proofs.schedule.join_last.Goals as goal

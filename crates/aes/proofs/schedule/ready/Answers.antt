@@ -1,7 +1,6 @@
-use Rattle.std.proofs.Common.{ℕ, ◌<◌, ◌∙◌, ap₂, bit_xor, arith}
+use Rattle.std.proofs.Common.{ℕ, ◌∙◌, ap₂, bit_xor, arith}
 use Rattle.std.proofs.lemmas.List.{get_or-replicate}
 use Rattle.aes.specs.Code.Lanes.{row_source}
-use Rattle.aes.proofs.FourRounds.{source_in}
 use Rattle.aes.proofs.schedule.ready.Goals as goal
 
 pub returns : goal.returns

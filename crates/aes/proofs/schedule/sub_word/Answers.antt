@@ -1,4 +1,4 @@
-use Rattle.std.proofs.Common.{ℕ, ◌%◌, ◌∙◌, ap, ap₂, bit_xor}
+use Rattle.std.proofs.Common.{◌%◌, ◌∙◌, ap₂, bit_xor}
 use Rattle.aes.proofs.MadeKeys.{sub_lane}
 use Rattle.aes.proofs.schedule.sub_word.Goals as goal
 

@@ -1,4 +1,4 @@
-use Rattle.std.proofs.Common.{ℕ, List, ◌++◌, map, get_or, replicate, length, refl, arith, bit_xor}
+use Rattle.std.proofs.Common.{ℕ, List, ◌++◌, map, get_or, replicate, refl, arith, bit_xor}
 use lib.Lanes.{zip2}
 use Rattle.aes.specs.declared.schedule.TheConstants.{ONE_WORD_BACK, TWO_WORDS_BACK}
 use Rattle.aes.proofs.Schedules.{moved, none, sum_lane, sum_long, sums_made}

@@ -1,4 +1,4 @@
-use Rattle.std.proofs.Common.{ℕ, List, length, ap, sym, subst, ◌∙◌}
+use Rattle.std.proofs.Common.{ℕ, List, ap, sym, subst, ◌∙◌}
 use Rattle.octets.specs.Bytes.{IsBlock}
 use Rattle.aes.specs.Cipher.{cipher}
 use Rattle.aes.proofs.Permutation.{cipher_block}

@@ -2,9 +2,8 @@ use Rattle.std.proofs.Common.{◌≡◌, ℕ, [], ◌+◌, ◌*◌, ◌/◌, ◌
 use Rattle.std.proofs.lemmas.List.{get_or-replicate}
 use Rattle.std.specs.Int.Bits.{xor_assoc, xor_zero_r}
 use Rattle.aes.specs.Schedule.{schedule, round_count}
-use Rattle.aes.specs.Code.Lanes.{in_basis, row_source, row_target}
 use Rattle.aes.specs.Code.Planes.{word_byte, masked_byte}
-use Rattle.aes.proofs.Expanded.{kept_keys, kept_length, is_key, target_at}
+use Rattle.aes.proofs.Expanded.{kept_keys, kept_length, is_key}
 use Rattle.aes.proofs.Permutation.{words_are}
 use Rattle.aes.proofs.MadeKeys.{unshifted}
 use Rattle.aes.proofs.key.AesKey.plain_key.Goals as goal

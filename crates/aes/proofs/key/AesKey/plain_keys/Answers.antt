@@ -1,4 +1,4 @@
-use Rattle.std.proofs.Common.{◌≡◌, ℕ, [], get_or, ap, ◌∙◌, arith, rules, inl, inr, get_or-set_same}
+use Rattle.std.proofs.Common.{[], get_or, ap, ◌∙◌, arith, rules, inl, inr, get_or-set_same}
 use Rattle.std.proofs.Common.{get_or-set_other}
 use Rattle.std.proofs.lemmas.Bool.{cases_eq}
 use Rattle.aes.proofs.Expanded.{kept_length}

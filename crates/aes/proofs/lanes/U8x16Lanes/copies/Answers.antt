@@ -1,4 +1,4 @@
-use Rattle.std.proofs.Common.{◌≡◌, ◌%◌, ℕ, length, get_or, sym, ap, arith, rules}
+use Rattle.std.proofs.Common.{◌≡◌, ◌%◌, ℕ, get_or, sym, ap, arith, rules}
 use Rattle.aes.proofs.lanes.U8x16Lanes.copies.Goals as goal
 
 pub returns : goal.returns
