@@ -1,62 +1,109 @@
 -- An expanded key, and the rounds that use its words.
-use Rattle.std.proofs.Common.{◌≡◌, ℕ, suc, ◌+◌, ◌-◌, ◌*◌, ◌/◌, ◌%◌, ◌^◌, ◌<◌, ◌≤◌, List, [], get_or, length, drop}
-use Rattle.std.proofs.Common.{refl, sym, ap, ap₂, ◌∙◌, arith, inl, inr, take_all, zero-add, bit_xor, add-one, subst}
-use Rattle.std.proofs.lemmas.List.FromFn.{get_or-map-range_with_len}
-use Rattle.std.proofs.lemmas.List.{length-map, get_or-map, get_or-drop}
-use Rattle.aes.specs.Code.Columns.{column_of, columns_of}
-use Rattle.aes.specs.Schedule.{round_count, schedule}
-use Rattle.aes.specs.Code.KeptWords.{table}
-use Rattle.aes.specs.Code.ExpandedKey.{key_of, IsKeySize, IsExpanded}
+use Rattle.std.proofs.Common.{◌≡◌, ℕ, suc, ◌+◌, ◌-◌, ◌*◌, ◌/◌, ◌%◌, ◌<◌, ◌≤◌, true, ◌&&◌, ◌==◌, ltb, List, [], map}
+use Rattle.std.proofs.Common.{get_or, length, drop, refl, sym, ap, ap₂, ◌∙◌, arith, inl, inr, zero-add, bit_xor, add-one}
+use Rattle.std.proofs.Common.{subst, ltb-true}
+use Rattle.std.specs.List.{range_with_len}
+use Rattle.std.specs.Int.Bits.{xor_assoc, xor_zero_r}
+use Rattle.std.proofs.lemmas.Bool.{and_parts, eqb-true, cases_eq, eq-eqb, ne_eqb}
+use Rattle.std.proofs.lemmas.List.FromFn.{get_or-map-range_with_len, length-map-range_with_len}
+use Rattle.std.proofs.lemmas.List.{ext_get_or, get_or-drop}
+use Rattle.aes.specs.Schedule.{round_count, schedule, key_words}
+use Rattle.aes.specs.Code.Lanes.{in_basis, from_basis, row_source, row_target}
+use Rattle.aes.specs.Code.Planes.{word_byte}
+use Rattle.aes.specs.Code.ReadyKeys.{KeepsReadyKeys}
+use Rattle.aes.specs.Code.ExpandedKey.{key_of, plain_byte, length_key_of, IsKeySize, IsExpanded}
 use Rattle.aes.specs.Cipher.{at, grid, sub_bytes, shift_rows, mix_columns, add_round_key, rounds, cipher}
 use Rattle.aes.specs.Cipher.{IsKey, IsKeyLength}
-use Rattle.aes.proofs.Words.{words_at, word_start, table_start, key_of_words}
 use Rattle.aes.proofs.Grids.{grid_is}
+use Rattle.aes.proofs.Tested.{all_below, all_below_at}
+use Rattle.aes.proofs.Steps.{AreWords}
+use Rattle.aes.proofs.Permutation.{words_are}
+use Rattle.aes.proofs.FourBlocks.{from_in_basis}
+use Rattle.aes.proofs.Schedules.{start_byte}
 
 -- ws begins with the schedule of the key
 abbrev pub HasSchedule : List (List ℕ) → List ℕ → Type 0
 HasSchedule ws key = (k : ℕ) → k < 4 * (round_count key + 1) → get_or ws k [] ≡ get_or (schedule key) k []
 
--- the `table` of a key begins with its schedule
-table_has : (ws : List (List ℕ)) (key : List ℕ) → ws ≡ table key → HasSchedule ws key
-table_has ws key e k h = ap (λ v. get_or v k []) e ∙ table_start key k h
+-- the place from which ShiftRows brings the byte that it moves to a place, tested at each place
+target_computed : all_below (λ i. (row_source (row_target i) == i) && ltb (row_target i) 16) 16 ≡ true
+target_computed = refl
 
--- the first words of an expanded key spell it
-pub spelled : (ws key : List ℕ) (n : ℕ) → length ws ≡ 60 → IsKeySize n → length key ≡ 4 * n
-    → columns_of ws ≡ table key → key_of (columns_of ws) n ≡ key
-spelled ws key n long size len e =
-    let columns : length (columns_of ws) ≡ 60 = length-map ws column_of ∙ long in
-    key_of_words (columns_of ws) key n (omega arith)
-    (λ k h. table_has (columns_of ws) key e k (omega arith)
-    ∙ words_at key (4 * (round_count key + 1)) k (omega arith) ∙ word_start key k (omega arith))
-    ∙ take_all (4 * n) key (omega arith)
+-- the place to which ShiftRows moves a byte is the place from which it brings it
+pub target_at : (i : ℕ) → i < 16 → (row_source (row_target i) ≡ i) × (row_target i < 16)
+target_at i l =
+    let both = and_parts (row_source (row_target i) == i) (ltb (row_target i) 16)
+    (all_below_at (λ i. (row_source (row_target i) == i) && ltb (row_target i) 16) 16 i target_computed l) in
+    (eqb-true (row_source (row_target i)) i both.0, ltb-true (row_target i) 16 both.1)
 
--- sixty words that are the `table` of a key are an expanded key
-pub expanded : (ws key : List ℕ) (n : ℕ) → ((i : ℕ) → get_or key i 0 < 256) → length ws ≡ 60 → IsKeySize n
-    → length key ≡ 4 * n
-    → columns_of ws ≡ table key → ((i : ℕ) → get_or ws i 0 < 2 ^ 32) → IsExpanded ws n
-expanded ws key n small long size len e words =
-    let k : key_of (columns_of ws) n ≡ key = spelled ws key n long size len e in
+-- a byte of a word is a byte of the words of the schedule, as its round keys have it
+pub word_of_key : (key : List ℕ) (n i : ℕ) → key_words key ≤ 8 → 0 < key_words key → 4 * n + i / 4 < key_words key → i < 16
+    → word_byte (schedule key) n i ≡ get_or key (16 * n + i) 0
+word_of_key key n i most some within l =
+    let place : 4 * (4 * n + i / 4) + i % 4 ≡ 16 * n + i = omega arith in
+    start_byte key (4 * n + i / 4) (i % 4) some within (omega arith) ∙ ap (λ (p : ℕ). get_or key p 0) place
+
+-- the stored byte of a ready key, out of the basis and without the constant, is the byte of the round key
+pub plain_is : (x b : ℕ) → b < 256 → x ≡ bit_xor (in_basis b) 0x7c → from_basis (bit_xor x 0x7c) ≡ b
+plain_is x b small e =
+    ap from_basis (ap (λ (y : ℕ). bit_xor y 0x7c) e ∙ xor_assoc (in_basis b) 0x7c 0x7c ∙ xor_zero_r (in_basis b))
+    ∙ from_in_basis b small
+
+-- a key has some words, and at most eight
+pub some_words : (n : ℕ) → IsKeySize n → 0 < n
+some_words n (inl e) = omega (arith, e)
+some_words n (inr (inl e)) = omega (arith, e)
+some_words n (inr (inr e)) = omega (arith, e)
+
+pub most_words : (n : ℕ) → IsKeySize n → n ≤ 8
+most_words n (inl e) = omega (arith, e)
+most_words n (inr (inl e)) = omega (arith, e)
+most_words n (inr (inr e)) = omega (arith, e)
+
+-- the first bytes of the stored round keys of a key spell it
+pub spelled : (keys : List (List ℕ)) (key : List ℕ) (n : ℕ) → ((i : ℕ) → get_or key i 0 < 256) → IsKeySize n
+    → length key ≡ 4 * n → KeepsReadyKeys keys key → key_of keys n ≡ key
+unfolding key_of
+spelled keys key n small size long kept =
+    let bytes : AreWords (schedule key) = words_are key (4 * (round_count key + 1)) small in
+    let most : n ≤ 8 = most_words n size in
+    let some : 0 < n = some_words n size in
+    let words : key_words key ≡ n = omega arith in
+    let wide = length-map-range_with_len (λ i. plain_byte keys (i / 16) (i % 16)) 0 (4 * n) in
+    ext_get_or 0 (map (λ i. plain_byte keys (i / 16) (i % 16)) (range_with_len 0 (4 * n))) key (wide ∙ sym long) (λ i l.
+    let within : i < 4 * n = omega (arith, wide) in
+    let low : i % 16 < 16 = omega arith in
+    let place : 16 * (i / 16) + i % 16 ≡ i = omega arith in
+    let of_word : 4 * (i / 16) + i % 16 / 4 < key_words key = omega arith in
+    get_or-map-range_with_len (λ i. plain_byte keys (i / 16) (i % 16)) 0 (4 * n) i i 0 within (zero-add i)
+    ∙ elim (cases_eq (i / 16) 0) [
+      | inl e ↦ rw (eq-eqb (i / 16) 0 e) (kept.first (i % 16) low
+          ∙ ap (λ (q : ℕ). word_byte (schedule key) q (i % 16)) (sym e))
+      | inr e ↦ rw (ne_eqb (i / 16) 0 e)
+          (let target = target_at (i % 16) low in
+          plain_is _ (word_byte (schedule key) (i / 16) (i % 16)) (bytes (4 * (i / 16) + i % 16 / 4) (i % 16 % 4))
+          (kept.middle (i / 16) (row_target (i % 16)) (omega arith) (omega arith) target.1
+          ∙ ap (λ (p : ℕ). bit_xor (in_basis (word_byte (schedule key) (i / 16) p)) 0x7c) target.0))
+    ]
+    ∙ word_of_key key (i / 16) (i % 16) (omega arith) (omega arith) of_word low
+    ∙ ap (λ (p : ℕ). get_or key p 0) place)
+
+-- round keys that are a key's are an expanded key
+pub expanded : (keys : List (List ℕ)) (key : List ℕ) (n : ℕ) → ((i : ℕ) → get_or key i 0 < 256) → IsKeySize n
+    → length key ≡ 4 * n → KeepsReadyKeys keys key → IsExpanded keys n
+expanded keys key n small size long kept =
+    let k : key_of keys n ≡ key = spelled keys key n small size long kept in
     record {
       size = size;
-      length_is = ap length k ∙ len;
+      length_is = length_key_of keys n;
       bytes = λ i. rw k (small i);
-      columns_are =
-          e ∙ ap table (sym k);
-      words = words;
+      keys_are = subst (KeepsReadyKeys keys) (sym k) kept;
     }
 
--- an expanded key begins with the schedule of the key that its first words spell
-pub has_schedule : (ws : List ℕ) (n : ℕ) (key : List ℕ) → IsExpanded ws n → key_of (columns_of ws) n ≡ key
-    → HasSchedule (columns_of ws) key
-has_schedule ws n key x e = table_has (columns_of ws) key (x.columns_are ∙ ap table e)
-
--- word k of an expanded key has the column that is word k of the schedule
-pub has_word : (ws key : List ℕ) (k : ℕ) → length ws ≡ 60 → HasSchedule (columns_of ws) key
-    → k < 4 * (round_count key + 1) × (k < 60) → column_of (get_or ws k 0) ≡ get_or (schedule key) k []
-has_word ws key k long has h =
-    let within : k < 4 * (round_count key + 1) = h.0 in
-    let below : k < 60 = h.1 in
-    sym (get_or-map column_of ws k 0 [] (omega arith)) ∙ has k within
+-- the stored round keys of an expanded key are those of the key that they spell
+pub kept_keys : (keys : List (List ℕ)) (n : ℕ) (key : List ℕ) → IsExpanded keys n → key_of keys n ≡ key
+    → KeepsReadyKeys keys key
+kept_keys keys n key x e = subst (KeepsReadyKeys keys) e x.keys_are
 
 -- grids that agree at their sixteen places are equal
 grid_same : (f h : ℕ → ℕ → ℕ) → ((k : ℕ) → k < 16 → f (k % 4) (k / 4) ≡ h (k % 4) (k / 4)) → grid f ≡ grid h
@@ -143,15 +190,14 @@ key_size key (inl e) = (inl (omega arith), omega arith)
 key_size key (inr (inl e)) = (inr (inl (omega arith)), omega arith)
 key_size key (inr (inr e)) = (inr (inr (omega arith)), omega arith)
 
--- the key that the words of an expanded key spell is a key of AES
-pub is_key : (ws : List ℕ) (n : ℕ) (key : List ℕ) → IsExpanded ws n → key_of (columns_of ws) n ≡ key → IsKey key
-is_key ws n key x e =
-    subst IsKey e (record { length_is = key_length (key_of (columns_of ws) n) n x.size x.length_is; bytes = x.bytes })
+-- the key that an expanded key spells has four bytes for each of its words
+pub kept_length : (keys : List (List ℕ)) (n : ℕ) (key : List ℕ) → IsExpanded keys n → key_of keys n ≡ key → length key ≡ 4 * n
+kept_length keys n key x e = sym (ap length e) ∙ length_key_of keys n
 
--- the key that the words of an expanded key spell has four bytes for each of its words
-pub kept_length : (ws : List ℕ) (n : ℕ) (key : List ℕ) → IsExpanded ws n → key_of (columns_of ws) n ≡ key
-    → length key ≡ 4 * n
-kept_length ws n key x e = sym (ap length e) ∙ x.length_is
+-- the key that an expanded key spells is a key of AES
+pub is_key : (keys : List (List ℕ)) (n : ℕ) (key : List ℕ) → IsExpanded keys n → key_of keys n ≡ key → IsKey key
+is_key keys n key x e =
+    subst IsKey e (record { length_is = key_length (key_of keys n) n x.size (length_key_of keys n); bytes = x.bytes })
 
 -- a round that uses the words from its own ones on is a round of the schedule
 pub next_round : (key b : List ℕ) (n : ℕ) → n + 1 ≤ round_count key

@@ -1,29 +1,27 @@
--- Four blocks in a vector: lanes, look-ups and the other basis.
+-- Blocks in a vector: lanes, look-ups and the other basis.
 use Rattle.std.proofs.Common.{◌≡◌, ℕ, zero, suc, ◌+◌, ◌*◌, ◌/◌, ◌%◌, ◌<◌, Bool, true, false, cond, ◌&&◌}
 use Rattle.std.proofs.Common.{◌||◌, ◌==◌, T, ltb, leb, List, [], ◌∷◌, ◌++◌, map, get_or, length, replicate}
-use Rattle.std.proofs.Common.{refl, sym, ap, ap₂, subst, ◌∙◌, arith, bit_and, bit_xor, w8, Fits, ltb-true}
+use Rattle.std.proofs.Common.{refl, sym, ap, ap₂, subst, ◌∙◌, arith, bit_and, bit_xor, w8, Fits, ltb-true, lt-ltb}
 use Rattle.std.proofs.lemmas.Nat.{xor_shr, xor_mod, xor_of_8, and_mask}
 use Rattle.std.proofs.lemmas.Bool.{and_parts, eqb-true, lt-leb}
-use Rattle.std.proofs.lemmas.List.{get_or-map, get_or_append_left, get_or-replicate, length-replicate}
+use Rattle.std.proofs.lemmas.List.{get_or-map, length-map, get_or_append_left, get_or-replicate, length-replicate}
 use Rattle.std.proofs.lemmas.Simd.{Each1-from_get_or, length-zip2, get_or-zip2, swz_l, SwzOk}
 use Rattle.std.proofs.lemmas.Simd.{SwzOk-from_Each1, length-swz_l, get_or-swz_l}
 use lib.Lanes.{zip2, Each1}
 use Rattle.aes.specs.Field.{times, sbox}
-use Rattle.aes.specs.Code.Lanes.{HasLanes, IsPlace, entry, row_source, row_below, row_above, in_basis}
-use Rattle.aes.specs.Code.Lanes.{linear_sbox}
+use Rattle.aes.specs.Code.Lanes.{HasLanes, IsPlace, entry, in_basis, from_basis, linear_sbox}
 use Rattle.aes.specs.declared.sbox.TheConstants.{SBOX}
-use Rattle.aes.specs.declared.lanes.TheConstants.{TO_LOW, TO_HIGH, INVERSE, SCALED, PLAIN_BY_FIRST}
+use Rattle.aes.specs.declared.lanes.TheConstants.{TO_LOW, TO_HIGH, FROM_LOW, FROM_HIGH, INVERSE, SCALED, PLAIN_BY_FIRST}
 use Rattle.aes.specs.declared.lanes.TheConstants.{PLAIN_BY_SECOND, ONCE_BY_FIRST, ONCE_BY_SECOND}
-use Rattle.aes.specs.declared.lanes.TheConstants.{TWICE_BY_FIRST, TWICE_BY_SECOND, ROW_SOURCES, ROWS_BELOW}
-use Rattle.aes.specs.declared.lanes.TheConstants.{ROWS_ABOVE}
+use Rattle.aes.specs.declared.lanes.TheConstants.{TWICE_BY_FIRST, TWICE_BY_SECOND}
 use Rattle.aes.proofs.Tested.{all_below, all_below_at}
 use Rattle.aes.proofs.Tables.{sbox_at}
 use Rattle.aes.proofs.Sums.{xor_exchange}
 use Rattle.aes.proofs.Multiples.{double, double_is}
 use Rattle.aes.proofs.Steps.{sbox_small}
 
--- a vector whose lanes hold f holds g too, if f and g agree on all 64 lanes
-pub same_lanes : {f g : ℕ → ℕ} (v : List ℕ) → HasLanes v f → ((k : ℕ) → k < 64 → f k ≡ g k) → HasLanes v g
+-- a vector whose lanes hold f holds g too, if f and g agree on all lanes
+pub same_lanes : {n : ℕ} {f g : ℕ → ℕ} (v : List ℕ) → HasLanes n v f → ((k : ℕ) → k < n → f k ≡ g k) → HasLanes n v g
 same_lanes v h same = record { long = h.long; each = λ k l. h.each k l ∙ same k l }
 
 -- each lane of a vector of bytes is below 256
@@ -33,19 +31,19 @@ lane_fits (x ∷ xs) zero h = h.0.fits
 lane_fits (x ∷ xs) (suc i) h = lane_fits xs i h.1
 
 -- an operator on two vectors acts on each pair of lanes
-pub lanes-zip2 : (g : ℕ → ℕ → ℕ) (x y : List ℕ) → length x ≡ 64 → length y ≡ 64
-    → HasLanes (zip2 g x y) (λ k. g (get_or x k 0) (get_or y k 0))
-lanes-zip2 g x y hx hy = record {
+pub lanes-zip2 : (n : ℕ) (g : ℕ → ℕ → ℕ) (x y : List ℕ) → length x ≡ n → length y ≡ n
+    → HasLanes n (zip2 g x y) (λ k. g (get_or x k 0) (get_or y k 0))
+lanes-zip2 n g x y hx hy = record {
   long = length-zip2 g x y (hx ∙ sym hy) ∙ hx;
   each = λ k l. get_or-zip2 g x y k 0 0 0 (omega arith) (omega arith);
 }
 
 -- an operator on a vector and one number in each lane acts on each lane with that number
-pub lanes-splat : (g : ℕ → ℕ → ℕ) (x : List ℕ) (n : ℕ) → length x ≡ 64
-    → HasLanes (zip2 g x (replicate 64 n)) (λ k. g (get_or x k 0) n)
-lanes-splat g x n hx =
-    same_lanes (zip2 g x (replicate 64 n)) (lanes-zip2 g x (replicate 64 n) hx (length-replicate 64 n))
-    (λ k l. ap (g (get_or x k 0)) (get_or-replicate {A = ℕ} 64 k n 0 l))
+pub lanes-splat : (n : ℕ) (g : ℕ → ℕ → ℕ) (x : List ℕ) (m : ℕ) → length x ≡ n
+    → HasLanes n (zip2 g x (replicate n m)) (λ k. g (get_or x k 0) m)
+lanes-splat n g x m hx =
+    same_lanes (zip2 g x (replicate n m)) (lanes-zip2 n g x (replicate n m) hx (length-replicate n m))
+    (λ k l. ap (g (get_or x k 0)) (get_or-replicate {A = ℕ} n k m 0 l))
 
 -- ---- look-ups
 -- whether a look-up may have this index
@@ -57,33 +55,33 @@ true_T : (b : Bool) → b ≡ true → T b
 true_T b e = subst T (sym e) tt
 
 -- a look-up is allowed if each lane of a vector is a place
-pub places_ok : (at : List ℕ) → length at ≡ 64 → ((k : ℕ) → k < 64 → IsPlace (get_or at k 0))
-    → SwzOk w8 16 64 0 at
-places_ok at long ok =
-    SwzOk-from_Each1 w8 16 4 64 0 at refl (omega arith)
+pub places_ok : (b n : ℕ) → n ≡ b * 16 → (at : List ℕ) → length at ≡ n
+    → ((k : ℕ) → k < n → IsPlace (get_or at k 0)) → SwzOk w8 16 n 0 at
+places_ok b n blocks at long ok =
+    SwzOk-from_Each1 w8 16 b n 0 at blocks (omega arith)
     (Each1-from_get_or (λ j. T (leb 128 j || ltb j 16)) at 0
     (λ i h. true_T (leb 128 (get_or at i 0) || ltb (get_or at i 0) 16) (ok i (omega arith))))
 
 -- the entry that a look-up finds in the copy of the table in lane k's block is the entry of the table
-entry_at : (t four : List ℕ) (k j : ℕ) → HasLanes four (λ i. get_or t (i % 16) 0) → k < 64 → (b : Bool)
-    → leb 128 j ≡ b → (b || ltb j 16) ≡ true
-    → cond b 0 (get_or four (16 * ((0 + k) / 16) + j) 0) ≡ cond b 0 (get_or t j 0)
-entry_at t four k j h l true e ok = refl
-entry_at t four k j h l false e ok =
+entry_at : (q n : ℕ) → n ≡ q * 16 → (t copies : List ℕ) (k j : ℕ) → HasLanes n copies (λ i. get_or t (i % 16) 0)
+    → k < n → (b : Bool) → leb 128 j ≡ b → (b || ltb j 16) ≡ true
+    → cond b 0 (get_or copies (16 * ((0 + k) / 16) + j) 0) ≡ cond b 0 (get_or t j 0)
+entry_at q n blocks t copies k j h l true e ok = refl
+entry_at q n blocks t copies k j h l false e ok =
     let small : j < 16 = ltb-true j 16 ok in
-    let place : 16 * ((0 + k) / 16) + j < 64 = omega arith in
+    let place : 16 * ((0 + k) / 16) + j < n = omega arith in
     let same : (16 * ((0 + k) / 16) + j) % 16 ≡ j = omega arith in
     h.each (16 * ((0 + k) / 16) + j) place ∙ ap (λ i. get_or t i 0) same
 
--- a look-up in four copies of a table gives each lane the entry of the table
-pub looked_up : (t four at : List ℕ) → HasLanes four (λ i. get_or t (i % 16) 0) → length at ≡ 64
-    → ((k : ℕ) → k < 64 → IsPlace (get_or at k 0))
-    → HasLanes (swz_l w8 16 four 0 at) (λ k. entry t (get_or at k 0))
-looked_up t four at h long ok = record {
-  long = length-swz_l w8 16 four 0 at ∙ long;
+-- a look-up in copies of a table gives each lane the entry of the table
+pub looked_up : (q n : ℕ) → n ≡ q * 16 → (t copies at : List ℕ) → HasLanes n copies (λ i. get_or t (i % 16) 0)
+    → length at ≡ n → ((k : ℕ) → k < n → IsPlace (get_or at k 0))
+    → HasLanes n (swz_l w8 16 copies 0 at) (λ k. entry t (get_or at k 0))
+looked_up q n blocks t copies at h long ok = record {
+  long = length-swz_l w8 16 copies 0 at ∙ long;
   each = λ k l.
-      get_or-swz_l w8 16 four 0 at k (omega arith)
-      ∙ entry_at t four k (get_or at k 0) h l (leb 128 (get_or at k 0)) refl (ok k l);
+      get_or-swz_l w8 16 copies 0 at k (omega arith)
+      ∙ entry_at q n blocks t copies k (get_or at k 0) h l (leb 128 (get_or at k 0)) refl (ok k l);
 }
 
 -- masking a byte with 15 gives its low nibble
@@ -91,58 +89,31 @@ pub low_is : (x : ℕ) → bit_and x 15 ≡ x % 16
 low_is x = and_mask x 4
 
 -- ---- places of rows
--- ROW_SOURCES is `row_source`, tested at each place
-sources_computed : all_below
-    (λ i. (get_or ROW_SOURCES i 0 == row_source i) && ltb (get_or ROW_SOURCES i 0) 64) 64 ≡ true
-sources_computed = refl
-
--- ROWS_BELOW is `row_below`, tested at each place
-below_computed : all_below (λ i. (get_or ROWS_BELOW i 0 == row_below i) && ltb (get_or ROWS_BELOW i 0) 64) 64
-    ≡ true
-below_computed = refl
-
--- ROWS_ABOVE is `row_above`, tested at each place
-above_computed : all_below (λ i. (get_or ROWS_ABOVE i 0 == row_above i) && ltb (get_or ROWS_ABOVE i 0) 64) 64
-    ≡ true
-above_computed = refl
-
--- a vector whose lanes are picked at places has the lanes of those places
-pub picked : (x ps : List ℕ) (f : ℕ → ℕ) (k : ℕ) → length x ≡ 64 → length ps ≡ 64 → k < 64
-    → all_below (λ i. (get_or ps i 0 == f i) && ltb (get_or ps i 0) 64) 64 ≡ true
-    → get_or (map (λ p. get_or (x ++ x) p 0) ps) k 0 ≡ get_or x (f k) 0
-picked x ps f k hx hp l test =
-    let both = and_parts (get_or ps k 0 == f k) (ltb (get_or ps k 0) 64)
-    (all_below_at (λ i. (get_or ps i 0 == f i) && ltb (get_or ps i 0) 64) 64 k test l) in
-    let small : get_or ps k 0 < 64 = ltb-true (get_or ps k 0) 64 both.1 in
-    get_or-map (λ p. get_or (x ++ x) p 0) ps k 0 0 (omega arith)
-    ∙ get_or_append_left x x 0 (get_or ps k 0) (omega arith)
-    ∙ ap (λ p. get_or x p 0) (eqb-true (get_or ps k 0) (f k) both.0)
-
--- picking lanes at ROW_SOURCES gives each lane that of `row_source`
-pub sources : (x : List ℕ) (k : ℕ) → length x ≡ 64 → k < 64
-    → get_or (map (λ p. get_or (x ++ x) p 0) ROW_SOURCES) k 0 ≡ get_or x (row_source k) 0
-sources x k hx l = picked x ROW_SOURCES row_source k hx refl l sources_computed
-
--- picking lanes at ROWS_BELOW gives each lane that of `row_below`
-pub belows : (x : List ℕ) (k : ℕ) → length x ≡ 64 → k < 64
-    → get_or (map (λ p. get_or (x ++ x) p 0) ROWS_BELOW) k 0 ≡ get_or x (row_below k) 0
-belows x k hx l = picked x ROWS_BELOW row_below k hx refl l below_computed
-
--- picking lanes at ROWS_ABOVE gives each lane that of `row_above`
-pub aboves : (x : List ℕ) (k : ℕ) → length x ≡ 64 → k < 64
-    → get_or (map (λ p. get_or (x ++ x) p 0) ROWS_ABOVE) k 0 ≡ get_or x (row_above k) 0
-aboves x k hx l = picked x ROWS_ABOVE row_above k hx refl l above_computed
+-- a vector whose lanes are picked at places has the lanes of those places, if the places are tested
+pub picked : (x ps : List ℕ) (f : ℕ → ℕ) (n m : ℕ) → length x ≡ n → length ps ≡ m
+    → all_below (λ i. (get_or ps i 0 == f i) && ltb (get_or ps i 0) n) m ≡ true
+    → HasLanes m (map (λ p. get_or (x ++ x) p 0) ps) (λ k. get_or x (f k) 0)
+picked x ps f n m hx hp test = record {
+  long = length-map ps (λ p. get_or (x ++ x) p 0) ∙ hp;
+  each = λ k l.
+      let both = and_parts (get_or ps k 0 == f k) (ltb (get_or ps k 0) n)
+      (all_below_at (λ i. (get_or ps i 0 == f i) && ltb (get_or ps i 0) n) m k test l) in
+      let small : get_or ps k 0 < n = ltb-true (get_or ps k 0) n both.1 in
+      get_or-map (λ p. get_or (x ++ x) p 0) ps k 0 0 (omega arith)
+      ∙ get_or_append_left x x 0 (get_or ps k 0) (omega arith)
+      ∙ ap (λ p. get_or x p 0) (eqb-true (get_or ps k 0) (f k) both.0);
+}
 
 -- ---- lanes that are computed from lanes
 -- if the lanes of v are F of the lanes of a, and those are g, the lanes of v are F of g
-pub via : (F g : ℕ → ℕ) (v a : List ℕ) → HasLanes v (λ k. F (get_or a k 0)) → HasLanes a g
-    → HasLanes v (λ k. F (g k))
+pub via : {n : ℕ} (F g : ℕ → ℕ) (v a : List ℕ) → HasLanes n v (λ k. F (get_or a k 0)) → HasLanes n a g
+    → HasLanes n v (λ k. F (g k))
 via F g v a h e = same_lanes v h (λ k l. ap F (e.each k l))
 
 -- if the lanes of v are F of the lanes of a and b, and those are g and h, the lanes of v are F of g and h
-pub via_two : (F : ℕ → ℕ → ℕ) (g h : ℕ → ℕ) (v a b : List ℕ)
-    → HasLanes v (λ k. F (get_or a k 0) (get_or b k 0)) → HasLanes a g → HasLanes b h
-    → HasLanes v (λ k. F (g k) (h k))
+pub via_two : {n : ℕ} (F : ℕ → ℕ → ℕ) (g h : ℕ → ℕ) (v a b : List ℕ)
+    → HasLanes n v (λ k. F (get_or a k 0) (get_or b k 0)) → HasLanes n a g → HasLanes n b h
+    → HasLanes n v (λ k. F (g k) (h k))
 via_two F g h v a b e x y = same_lanes v e (λ k l. ap₂ F (x.each k l) (y.each k l))
 
 -- ---- the basis
@@ -195,6 +166,30 @@ basis_entries x h =
     ap₂ bit_xor (ap (λ b. cond b 0 (get_or TO_LOW (x % 16) 0)) (lt-leb 128 (x % 16) low))
     (ap (λ b. cond b 0 (get_or TO_HIGH (x / 16) 0)) (lt-leb 128 (x / 16) high))
 
+-- the way back from the basis, tested at each byte
+back_computed : all_below
+    (λ x. bit_xor (entry FROM_LOW (in_basis x % 16)) (entry FROM_HIGH (in_basis x / 16)) == x) 256 ≡ true
+unfolding in_basis
+back_computed = refl
+
+-- the XOR of the two look-ups of the nibbles of a byte's coordinates is the byte
+pub back_entries : (x : ℕ) → x < 256
+    → bit_xor (entry FROM_LOW (in_basis x % 16)) (entry FROM_HIGH (in_basis x / 16)) ≡ x
+back_entries x h =
+    eqb-true (bit_xor (entry FROM_LOW (in_basis x % 16)) (entry FROM_HIGH (in_basis x / 16))) x
+    (all_below_at (λ x. bit_xor (entry FROM_LOW (in_basis x % 16)) (entry FROM_HIGH (in_basis x / 16)) == x) 256 x
+    back_computed h)
+
+-- the byte with the coordinates of a byte, tested at each byte
+from_computed : all_below (λ x. from_basis (in_basis x) == x) 256 ≡ true
+unfolding in_basis from_basis
+from_computed = refl
+
+-- the byte with the coordinates of a byte is the byte
+pub from_in_basis : (x : ℕ) → x < 256 → from_basis (in_basis x) ≡ x
+from_in_basis x h =
+    eqb-true (from_basis (in_basis x)) x (all_below_at (λ x. from_basis (in_basis x) == x) 256 x from_computed h)
+
 -- ---- the S-box in terms of the nibbles of a byte in the basis
 -- the scaled inverse of the low nibble
 abbrev pub scaled_at : ℕ → ℕ
@@ -244,9 +239,18 @@ places_at y h =
     (a.0, b.0, c.0, d.0, d.1)
 
 -- lanes that hold g of each byte are places of a look-up, if g maps each byte to such a place
-pub shown : (g : ℕ → ℕ) (v x : List ℕ) → Each1 (Fits w8) x → HasLanes v (λ k. g (get_or x k 0))
-    → ((y : ℕ) → y < 256 → IsPlace (g y)) → (k : ℕ) → k < 64 → IsPlace (get_or v k 0)
-shown g v x fits h ok k l = subst IsPlace (sym (h.each k l)) (ok (get_or x k 0) (lane_fits x k fits))
+pub shown : {n : ℕ} (g : ℕ → ℕ) (v x : List ℕ) → ((k : ℕ) → get_or x k 0 < 256)
+    → HasLanes n v (λ k. g (get_or x k 0)) → ((y : ℕ) → y < 256 → IsPlace (g y)) → (k : ℕ) → k < n
+    → IsPlace (get_or v k 0)
+shown g v x fits h ok k l = subst IsPlace (sym (h.each k l)) (ok (get_or x k 0) (fits k))
+
+-- the low nibble of a byte is a place of a look-up
+pub low_place : (y : ℕ) → y < 256 → IsPlace (y % 16)
+low_place y h = rw (lt-ltb (y % 16) 16 (omega arith), lt-leb 128 (y % 16) (omega arith)) refl
+
+-- the high nibble of a byte is a place of a look-up
+pub high_place : (y : ℕ) → y < 256 → IsPlace (y / 16)
+high_place y h = rw (lt-ltb (y / 16) 16 (omega arith), lt-leb 128 (y / 16) (omega arith)) refl
 
 -- `both_at` of a byte is a place of a look-up
 pub both_place : (y : ℕ) → y < 256 → IsPlace (both_at y)
@@ -307,33 +311,33 @@ by_sbox g h b l test =
     ∙ ap (λ (s : ℕ). h (bit_xor s 0x63)) (sbox_at b l)
 
 -- if the lanes are two tables' entries at bytes in the basis, which were tested against h, they are h of `linear_sbox`
-substituted : (p q v x : List ℕ) (s h : ℕ → ℕ) → HasLanes v (λ k. by_parts p q (get_or x k 0))
-    → ((k : ℕ) → k < 64 → s k < 256) → HasLanes x (λ k. in_basis (s k))
+substituted : {n : ℕ} (p q v x : List ℕ) (s h : ℕ → ℕ) → HasLanes n v (λ k. by_parts p q (get_or x k 0))
+    → ((k : ℕ) → k < n → s k < 256) → HasLanes n x (λ k. in_basis (s k))
     → all_below (λ b. by_parts p q (in_basis b) == h (bit_xor (get_or SBOX b 0) 0x63)) 256 ≡ true
-    → HasLanes v (λ k. h (linear_sbox (s k)))
+    → HasLanes n v (λ k. h (linear_sbox (s k)))
 substituted p q v x s h made small held test =
     same_lanes v made (λ k l. ap (by_parts p q) (held.each k l)
     ∙ by_sbox (λ b. by_parts p q (in_basis b)) h (s k) (small k l) test)
 
 -- the lanes of the PLAIN tables' entries are the S-box without its constant
-pub plain_lanes : (v x : List ℕ) (s : ℕ → ℕ)
-    → HasLanes v (λ k. by_parts PLAIN_BY_FIRST PLAIN_BY_SECOND (get_or x k 0))
-    → ((k : ℕ) → k < 64 → s k < 256) → HasLanes x (λ k. in_basis (s k)) → HasLanes v (λ k. linear_sbox (s k))
+pub plain_lanes : {n : ℕ} (v x : List ℕ) (s : ℕ → ℕ)
+    → HasLanes n v (λ k. by_parts PLAIN_BY_FIRST PLAIN_BY_SECOND (get_or x k 0))
+    → ((k : ℕ) → k < n → s k < 256) → HasLanes n x (λ k. in_basis (s k)) → HasLanes n v (λ k. linear_sbox (s k))
 plain_lanes v x s made small held =
     substituted PLAIN_BY_FIRST PLAIN_BY_SECOND v x s (λ y. y) made small held plain_computed
 
 -- the lanes of the ONCE tables' entries are the S-box without its constant, in the basis
-pub once_lanes : (v x : List ℕ) (s : ℕ → ℕ)
-    → HasLanes v (λ k. by_parts ONCE_BY_FIRST ONCE_BY_SECOND (get_or x k 0)) → ((k : ℕ) → k < 64 → s k < 256)
-    → HasLanes x (λ k. in_basis (s k)) → HasLanes v (λ k. in_basis (linear_sbox (s k)))
+pub once_lanes : {n : ℕ} (v x : List ℕ) (s : ℕ → ℕ)
+    → HasLanes n v (λ k. by_parts ONCE_BY_FIRST ONCE_BY_SECOND (get_or x k 0)) → ((k : ℕ) → k < n → s k < 256)
+    → HasLanes n x (λ k. in_basis (s k)) → HasLanes n v (λ k. in_basis (linear_sbox (s k)))
 once_lanes v x s made small held =
     substituted ONCE_BY_FIRST ONCE_BY_SECOND v x s in_basis made small held once_computed
 
 -- the lanes of the TWICE tables' entries are twice the S-box without its constant, in the basis
-pub twice_lanes : (v x : List ℕ) (s : ℕ → ℕ)
-    → HasLanes v (λ k. by_parts TWICE_BY_FIRST TWICE_BY_SECOND (get_or x k 0))
-    → ((k : ℕ) → k < 64 → s k < 256) → HasLanes x (λ k. in_basis (s k))
-    → HasLanes v (λ k. in_basis (times 2 (linear_sbox (s k))))
+pub twice_lanes : {n : ℕ} (v x : List ℕ) (s : ℕ → ℕ)
+    → HasLanes n v (λ k. by_parts TWICE_BY_FIRST TWICE_BY_SECOND (get_or x k 0))
+    → ((k : ℕ) → k < n → s k < 256) → HasLanes n x (λ k. in_basis (s k))
+    → HasLanes n v (λ k. in_basis (times 2 (linear_sbox (s k))))
 twice_lanes v x s made small held =
     same_lanes v
     (substituted TWICE_BY_FIRST TWICE_BY_SECOND v x s (λ y. in_basis (double y)) made small held

@@ -1,24 +1,22 @@
--- Rounds of four blocks, byte by byte.
-use Rattle.std.proofs.Common.{◌≡◌, ℕ, zero, suc, ◌+◌, ◌*◌, ◌/◌, ◌%◌, ◌^◌, ◌<◌, ◌≤◌, true, ◌&&◌, ◌==◌, List}
-use Rattle.std.proofs.Common.{[], ◌∷◌, get_or, length, replicate, refl, sym, ap, ap₂, ◌∙◌, arith, bit_xor}
+-- Rounds of one, two or four blocks, byte by byte.
+use Rattle.std.proofs.Common.{◌≡◌, ℕ, zero, suc, ◌+◌, ◌*◌, ◌/◌, ◌%◌, ◌^◌, ◌<◌, true, ◌&&◌, ◌==◌, List}
+use Rattle.std.proofs.Common.{[], ◌∷◌, get_or, length, refl, sym, ap, ap₂, ◌∙◌, arith, bit_xor}
 use Rattle.std.proofs.Common.{zero-add, take, drop, inl, inr}
 use Rattle.std.specs.Int.Bits.{xor_zero_r, xor_comm, xor_assoc}
 use Rattle.std.proofs.lemmas.Nat.{xor_of_8}
 use Rattle.std.proofs.lemmas.Bool.{and_parts, eqb-true, cases_lt}
-use Rattle.std.proofs.lemmas.List.{get_or-replicate, length-replicate, get_or-map, get_or-take, get_or-drop}
+use Rattle.std.proofs.lemmas.List.{get_or-take, get_or-drop}
 use Rattle.std.proofs.lemmas.List.{get_or_past, length-take, length-take-le, length-drop, ext_get_or}
 use Rattle.std.proofs.lemmas.List.FromFn.{get_or-map-range_with_len}
-use Rattle.std.proofs.lemmas.Simd.{get_or_narrower}
-use lib.Lanes.{Each1, number_l, digits_l}
 use Rattle.octets.specs.Bytes.{IsBlock, block_at}
 use Rattle.octets.specs.Polynomial.{product, residue}
 use Rattle.aes.specs.Field.{times, sbox}
 use Rattle.aes.specs.Cipher.{at, grid, column, mix_column, sub_bytes, shift_rows, mix_columns, add_round_key}
 use Rattle.aes.specs.Code.Columns.{column_of, columns_of}
-use Rattle.aes.specs.Code.Lanes.{HasLanes, HoldsBlocks, HoldsInBasis, byte_of, key_byte, ready_byte}
-use Rattle.aes.specs.Code.Lanes.{row_source, row_below, row_above, in_basis, linear_sbox, IsInBasis}
-use Rattle.aes.specs.Schedule.{round_count, schedule}
-use Rattle.aes.proofs.Expanded.{HasSchedule}
+use Rattle.aes.specs.Code.Lanes.{HasLanes, HoldsBlocks, HoldsShifted, byte_of, key_byte, AreBytes}
+use Rattle.aes.specs.Code.Lanes.{row_source, row_below, row_above, in_basis, linear_sbox}
+use Rattle.aes.specs.Code.Planes.{word_byte, masked_byte}
+use Rattle.aes.specs.Code.ReadyKeys.{ready_byte}
 use Rattle.aes.proofs.Tested.{all_below, all_below_at}
 use Rattle.aes.proofs.Multiples.{single_is, triple_is}
 use Rattle.aes.proofs.Rows.{dot_is}
@@ -164,7 +162,7 @@ unfolding linear_sbox
 twice_linear x = times_xor 2 (sbox x) 0x63 ∙ ap (bit_xor (times 2 (sbox x))) twice_constant
 
 -- the constant of the S-box in the basis is 0x7c
-constant_in_basis : in_basis 0x63 ≡ 0x7c
+pub constant_in_basis : in_basis 0x63 ≡ 0x7c
 unfolding in_basis
 constant_in_basis = refl
 
@@ -256,24 +254,20 @@ above_at : (i : ℕ) → i < 64 → row_above i ≡ row_below (row_below (row_be
 above_at i l = eqb-true (row_above i) (row_below (row_below (row_below i)))
     (all_below_at (λ i. row_above i == row_below (row_below (row_below i))) 64 i above_computed l)
 
--- lanes that are moved down by one row have the values of the row above
-pub lowered_lanes : (g : ℕ → ℕ) (v a : List ℕ) → HasLanes v (λ i. get_or a (row_above i) 0) → HasLanes a g
-    → HasLanes v (λ i. g (row_above i))
-lowered_lanes g v a h e = same_lanes v h (λ i l. e.each (row_above i) (omega arith))
+-- lanes that are picked at places of lanes have the values of those places
+pub brought_lanes : {n : ℕ} (g p : ℕ → ℕ) (v a : List ℕ) → HasLanes n v (λ i. get_or a (p i) 0) → HasLanes n a g
+    → ((i : ℕ) → i < n → p i < n) → HasLanes n v (λ i. g (p i))
+brought_lanes g p v a h e within = same_lanes v h (λ i l. e.each (p i) (within i l))
 
--- lanes that are moved up by one row have the values of the row below
-pub moved_lanes : (g : ℕ → ℕ) (v a : List ℕ) → HasLanes v (λ i. get_or a (row_below i) 0) → HasLanes a g
-    → HasLanes v (λ i. g (row_below i))
-moved_lanes g v a h e = same_lanes v h (λ i l. e.each (row_below i) (omega arith))
+-- the source of a lane in ShiftRows, and the rows below and above it, are lanes
+pub source_in : (n i : ℕ) → n % 16 ≡ 0 → i < n → row_source i < n
+source_in n i whole l = omega arith
 
--- lanes that are brought by ShiftRows have the values of their sources
-pub source_lanes : (g : ℕ → ℕ) (v a : List ℕ) → HasLanes v (λ i. get_or a (row_source i) 0) → HasLanes a g
-    → HasLanes v (λ i. g (row_source i))
-source_lanes g v a h e = same_lanes v h (λ i l. e.each (row_source i) (omega arith))
+pub below_in : (n i : ℕ) → n % 16 ≡ 0 → i < n → row_below i < n
+below_in n i whole l = omega arith
 
--- a vector of one number in each lane holds that number
-pub splat_lanes : (n : ℕ) → HasLanes (replicate 64 n) (λ i. n)
-splat_lanes n = record { long = length-replicate 64 n; each = λ k l. get_or-replicate {A = ℕ} 64 k n 0 l }
+pub above_in : (n i : ℕ) → n % 16 ≡ 0 → i < n → row_above i < n
+above_in n i whole l = omega arith
 
 -- the byte of lane i after a round, in terms of the bytes from which it comes
 pub round_byte : (f : ℕ → List ℕ) (ws : List (List ℕ)) (i : ℕ) → ((q : ℕ) → IsBlock (f q)) → i < 64
@@ -309,50 +303,108 @@ round_byte f ws i blocks l =
     ∙ ap sbox (sym (same_byte f (λ i. row_source (row_below (row_below (row_below i))))
     (λ i. row_source (row_below (row_below (row_below (i % 16))))) i l three_computed))))))
 
--- if the lanes are the sums of a round's terms in the basis, the vector holds the blocks after a round, in the basis
-pub round_lanes : (v : List ℕ) (f : ℕ → List ℕ) (ws : List (List ℕ)) → ((q : ℕ) → IsBlock (f q))
-    → ((i : ℕ) → i < 64 → key_byte ws i < 256)
-    → HasLanes v (λ i.
-    bit_xor
+-- the sum of a round's terms in the basis is the byte after the round, in the basis
+round_lane : (f : ℕ → List ℕ) (ws : List (List ℕ)) (i : ℕ) → ((q : ℕ) → IsBlock (f q)) → key_byte ws i < 256 → i < 64
+    → bit_xor
     (bit_xor (bit_xor (in_basis (times 2 (linear_sbox (byte_of f (row_source i)))))
     (in_basis (linear_sbox (byte_of f (row_source (row_below i))))))
     (bit_xor (bit_xor (in_basis (times 2 (linear_sbox (byte_of f (row_source (row_below i))))))
     (in_basis (linear_sbox (byte_of f (row_source (row_below (row_below i)))))))
     (in_basis (linear_sbox (byte_of f (row_source (row_above i)))))))
-    (bit_xor (in_basis (key_byte ws i)) 0x7c))
-    → HoldsInBasis v (λ q. add_round_key ws 0 (mix_columns (shift_rows (sub_bytes (f q)))))
-round_lanes v f ws blocks keys made =
+    (bit_xor (in_basis (key_byte ws i)) 0x7c)
+    ≡ in_basis (byte_of (λ q. add_round_key ws 0 (mix_columns (shift_rows (sub_bytes (f q))))) i)
+round_lane f ws i blocks key l =
     let small : (i : ℕ) → byte_of f i < 256 = λ i. (blocks (i / 16)).bytes (i % 16) in
-    same_lanes v made (λ i l.
     lane_mixed (byte_of f (row_source i)) (byte_of f (row_source (row_below i)))
     (byte_of f (row_source (row_below (row_below i)))) (byte_of f (row_source (row_above i)))
     (key_byte ws i) (small (row_source i)) (small (row_source (row_below i)))
-    (small (row_source (row_below (row_below i)))) (small (row_source (row_above i))) (keys i l)
+    (small (row_source (row_below (row_below i)))) (small (row_source (row_above i))) key
     ∙ ap in_basis (ap (λ (p : ℕ).
     bit_xor (mixed (sbox (byte_of f (row_source i))) (sbox (byte_of f (row_source (row_below i))))
     (sbox (byte_of f (row_source (row_below (row_below i))))) (sbox (byte_of f (row_source p))))
     (key_byte ws i)) (above_at i l)
-    ∙ sym (round_byte f ws i blocks l)))
+    ∙ sym (round_byte f ws i blocks l))
+
+-- the terms of a sum may be in another order
+regrouped : (u d k l : ℕ) → bit_xor (bit_xor u (bit_xor d k)) l ≡ bit_xor (bit_xor u (bit_xor l d)) k
+regrouped u d k l =
+    ap (λ (m : ℕ). bit_xor m l) (sym (xor_assoc u d k)) ∙ xor_assoc (bit_xor u d) k l
+    ∙ ap (bit_xor (bit_xor u d)) (xor_comm k l) ∙ sym (xor_assoc (bit_xor u d) l k)
+    ∙ ap (λ (m : ℕ). bit_xor m k) (xor_assoc u d l ∙ ap (bit_xor u) (xor_comm d l))
+
+-- byte p of round key 0 of ws
+own_byte : (ws : List (List ℕ)) (p : ℕ) → word_byte ws 0 p ≡ get_or (get_or ws (p / 4) []) (p % 4) 0
+own_byte ws p =
+    let first : 4 * 0 + p / 4 ≡ p / 4 = omega arith in
+    ap (λ (j : ℕ). get_or (get_or ws j []) (p % 4) 0) first
+
+-- the byte of a round key at the source of a lane in its block is the byte for the source of the lane
+key_at_source : (ws : List (List ℕ)) (i : ℕ) → i < 64 → word_byte ws 0 (row_source (i % 16)) ≡ key_byte ws (row_source i)
+key_at_source ws i l =
+    let both = and_parts (row_source i / 16 == i / 16) (row_source i % 16 == row_source (i % 16))
+    (all_below_at (λ i. (row_source i / 16 == i / 16) && (row_source i % 16 == row_source (i % 16))) 64 i own_computed l)
+    in
+    own_byte ws (row_source (i % 16))
+    ∙ ap (λ (p : ℕ). get_or (get_or ws (p / 4) []) (p % 4) 0)
+    (sym (eqb-true (row_source i % 16) (row_source (i % 16)) both.1))
+
+-- if the lanes are the sums of a round's terms at the sources of ShiftRows, the vector holds the blocks after a round, in the
+-- basis, with their rows shifted
+pub round_lanes : {n : ℕ} (v key : List ℕ) (f : ℕ → List ℕ) (ws : List (List ℕ)) → n < 65 → n % 16 ≡ 0
+    → ((q : ℕ) → IsBlock (f q)) → AreBytes ws
+    → ((i : ℕ) → i < 16 → get_or key i 0 ≡ ready_byte ws 0 (row_source i))
+    → HasLanes n v (λ i.
+    bit_xor
+    (bit_xor (bit_xor (in_basis (times 2 (linear_sbox (byte_of f (row_source (row_source i))))))
+    (in_basis (linear_sbox (byte_of f (row_source (row_below (row_source i)))))))
+    (bit_xor (in_basis (linear_sbox (byte_of f (row_source (row_above (row_source i)))))) (get_or key (i % 16) 0)))
+    (bit_xor (in_basis (times 2 (linear_sbox (byte_of f (row_source (row_below (row_source i)))))))
+    (in_basis (linear_sbox (byte_of f (row_source (row_below (row_below (row_source i)))))))))
+    → HoldsShifted n v (λ q. add_round_key ws 0 (mix_columns (shift_rows (sub_bytes (f q)))))
+round_lanes {n = n} v key f ws few whole blocks bytes ready made =
+    same_lanes v made (λ i l.
+    let j : ℕ = row_source i in
+    let small : i < 64 = omega arith in
+    let within : j < 64 = omega (arith, source_in n i whole l) in
+    let upper : ℕ = bit_xor (in_basis (times 2 (linear_sbox (byte_of f (row_source j)))))
+    (in_basis (linear_sbox (byte_of f (row_source (row_below j))))) in
+    let lower : ℕ = bit_xor (in_basis (times 2 (linear_sbox (byte_of f (row_source (row_below j))))))
+    (in_basis (linear_sbox (byte_of f (row_source (row_below (row_below j)))))) in
+    let down : ℕ = in_basis (linear_sbox (byte_of f (row_source (row_above j)))) in
+    ap (λ (k : ℕ). bit_xor (bit_xor upper (bit_xor down k)) lower)
+    (ready (i % 16) (omega arith) ∙ ap (λ (b : ℕ). bit_xor (in_basis b) 0x7c) (key_at_source ws i small))
+    ∙ regrouped upper down (bit_xor (in_basis (key_byte ws j)) 0x7c) lower
+    ∙ round_lane f ws j blocks (bytes (j % 16 / 4) (j % 16 % 4)) within)
 
 -- if the lanes are the sums of the last round's terms, the vector holds the blocks after the last round
-pub last_lanes : (v : List ℕ) (f : ℕ → List ℕ) (ws : List (List ℕ))
-    → HasLanes v (λ i. bit_xor (linear_sbox (byte_of f (row_source i))) (bit_xor (key_byte ws i) 0x63))
-    → HoldsBlocks v (λ q. add_round_key ws 0 (shift_rows (sub_bytes (f q))))
-last_lanes v f ws made =
+pub last_lanes : {n : ℕ} (v key : List ℕ) (f : ℕ → List ℕ) (ws : List (List ℕ)) → n < 65
+    → ((i : ℕ) → i < 16 → get_or key i 0 ≡ masked_byte ws 0 i)
+    → HasLanes n v (λ i. bit_xor (linear_sbox (byte_of f (row_source i))) (get_or key (i % 16) 0))
+    → HoldsBlocks n v (λ q. add_round_key ws 0 (shift_rows (sub_bytes (f q))))
+last_lanes v key f ws few masked made =
     same_lanes v made (λ i l.
     let hp : i % 16 < 16 = omega arith in
-    lane_last (byte_of f (row_source i)) (key_byte ws i)
+    let small : i < 64 = omega arith in
+    ap (bit_xor (linear_sbox (byte_of f (row_source i))))
+    (masked (i % 16) hp ∙ ap (λ (b : ℕ). bit_xor b 0x63) (own_byte ws (i % 16)))
+    ∙ lane_last (byte_of f (row_source i)) (key_byte ws i)
     ∙ sym (added_byte ws (shift_rows (sub_bytes (f (i / 16)))) (i % 16) hp
     ∙ ap (λ (x : ℕ). bit_xor x (key_byte ws i))
     (shifted_byte (f (i / 16)) (i % 16) hp
-    ∙ ap sbox (sym (same_byte f row_source (λ i. row_source (i % 16)) i l own_computed)))))
+    ∙ ap sbox (sym (same_byte f row_source (λ i. row_source (i % 16)) i small own_computed)))))
 
--- if the lanes are the blocks plus the round key in the basis, the vector holds the blocks after AddRoundKey, in the basis
-pub first_lanes : (v : List ℕ) (f : ℕ → List ℕ) (ws : List (List ℕ))
-    → HasLanes v (λ i. in_basis (bit_xor (byte_of f i) (key_byte ws i)))
-    → HoldsInBasis v (λ q. add_round_key ws 0 (f q))
-first_lanes v f ws made =
-    same_lanes v made (λ i l. ap in_basis (sym (added_byte ws (f (i / 16)) (i % 16) (omega arith))))
+-- if the lanes are the sums of the blocks and the round key at the sources of ShiftRows, in the basis, the vector holds the blocks
+-- after AddRoundKey, in the basis, with their rows shifted
+pub first_lanes : {n : ℕ} (v key : List ℕ) (f : ℕ → List ℕ) (ws : List (List ℕ))
+    → ((i : ℕ) → i < 16 → get_or key i 0 ≡ word_byte ws 0 i)
+    → HasLanes n v (λ i. in_basis (bit_xor (byte_of f (row_source i)) (get_or key (row_source i % 16) 0)))
+    → HoldsShifted n v (λ q. add_round_key ws 0 (f q))
+first_lanes v key f ws plain made =
+    same_lanes v made (λ i l.
+    let j : ℕ = row_source i in
+    let hp : j % 16 < 16 = omega arith in
+    ap in_basis (ap (bit_xor (byte_of f j)) (plain (j % 16) hp ∙ own_byte ws (j % 16))
+    ∙ sym (added_byte ws (f (j / 16)) (j % 16) hp)))
 
 -- ---- the words of a round
 -- byte i of a word is row i of its column
@@ -364,50 +416,36 @@ column_byte w (suc (suc zero)) h = refl
 column_byte w (suc (suc (suc zero))) h = refl
 column_byte w (suc (suc (suc (suc i)))) h = absurd (omega arith)
 
--- the bytes of four words, repeated for each block, are the bytes of the round key
-pub key_lanes : (v ws : List ℕ) → length ws ≡ 4 → Each1 (λ x. x < 2 ^ 32) ws
-    → HasLanes v (λ i. get_or (digits_l 256 16 (number_l (2 ^ 32) ws)) (i % 16) 0)
-    → HasLanes v (key_byte (columns_of ws))
-key_lanes v ws long small made =
-    same_lanes v made (λ i l.
-    let j : ℕ = i % 16 / 4 in
-    let place : i % 16 ≡ 4 * j + i % 16 % 4 = omega arith in
-    ap (λ (k : ℕ). get_or (digits_l 256 16 (number_l (2 ^ 32) ws)) k 0) place
-    ∙ get_or_narrower (2 ^ 32) 4 256 16 ws j (i % 16 % 4) refl small (omega arith) (omega arith)
-    ∙ column_byte (get_or ws j 0) (i % 16 % 4) (omega arith)
-    ∙ ap (λ c. get_or c (i % 16 % 4) 0) (sym (get_or-map column_of ws j 0 [] (omega arith))))
-
--- ---- four blocks of a list
--- a list of 64 bytes holds its four blocks
-pub holds_self : (m : List ℕ) → length m ≡ 64 → HoldsBlocks m (λ q. block_at m (q % 4))
-holds_self m long = record {
+-- ---- the blocks of a list
+-- a list of b blocks holds them, with any block for a number from b on
+pub holds_self : (b : ℕ) (p : ℕ → ℕ) (m : List ℕ) → length m ≡ 16 * b → ((q : ℕ) → q < b → p q ≡ q)
+    → HoldsBlocks (16 * b) m (λ q. block_at m (p q))
+holds_self b p m long own = record {
   long = long;
   each = λ k l.
-      let q : k / 16 % 4 ≡ k / 16 = omega arith in
       let place : k ≡ k / 16 * 16 + k % 16 = omega arith in
       ap (λ i. get_or m i 0) place ∙ sym (get_or-drop (k / 16 * 16) m (k % 16) 0)
       ∙ sym (get_or-take 16 (drop (k / 16 * 16) m) (k % 16) 0 (omega arith))
-      ∙ ap (λ i. get_or (block_at m i) (k % 16) 0) (sym q);
+      ∙ ap (λ i. get_or (block_at m i) (k % 16) 0) (sym (own (k / 16) (omega arith)));
 }
 
--- each of the four blocks of 64 bytes is a block
-pub block_at_is : (m : List ℕ) (q : ℕ) → length m ≡ 64 → ((i : ℕ) → get_or m i 0 < 256)
-    → IsBlock (block_at m (q % 4))
-block_at_is m q long small = record {
-  length_is = length-take-le 16 (drop (q % 4 * 16) m) (omega (arith, length-drop (q % 4 * 16) m));
+-- each block of a list of b blocks is a block
+pub block_at_is : (b q : ℕ) (m : List ℕ) → length m ≡ 16 * b → ((i : ℕ) → get_or m i 0 < 256) → q < b
+    → IsBlock (block_at m q)
+block_at_is b q m long small h = record {
+  length_is = length-take-le 16 (drop (q * 16) m) (omega (arith, length-drop (q * 16) m));
   bytes = λ i. elim (cases_lt i 16) [
-    | inl l ↦ rw (get_or-take 16 (drop (q % 4 * 16) m) i 0 l, get_or-drop (q % 4 * 16) m i 0)
-        (small (q % 4 * 16 + i))
-    | inr g ↦ rw (get_or_past (take 16 (drop (q % 4 * 16) m)) i 0
-        (omega (arith, length-take 16 (drop (q % 4 * 16) m)))) (omega arith)
+    | inl l ↦ rw (get_or-take 16 (drop (q * 16) m) i 0 l, get_or-drop (q * 16) m i 0) (small (q * 16 + i))
+    | inr g ↦ rw (get_or_past (take 16 (drop (q * 16) m)) i 0
+        (omega (arith, length-take 16 (drop (q * 16) m)))) (omega arith)
   ];
 }
 
 -- block q of a vector that holds blocks is the block that it holds
-pub block_held : (v : List ℕ) (f : ℕ → List ℕ) (q : ℕ) → HoldsBlocks v f → q < 4 → length (f q) ≡ 16
+pub block_held : (b : ℕ) (v : List ℕ) (f : ℕ → List ℕ) (q : ℕ) → HoldsBlocks (16 * b) v f → q < b → length (f q) ≡ 16
     → block_at v q ≡ f q
-block_held v f q held h long =
-    let all : length v ≡ 64 = held.long in
+block_held b v f q held h long =
+    let all : length v ≡ 16 * b = held.long in
     ext_get_or 0 (block_at v q) (f q)
     (length-take-le 16 (drop (q * 16) v) (omega (arith, length-drop (q * 16) v)) ∙ sym long) (λ k l.
     let within : k < 16 = omega (arith, length-take 16 (drop (q * 16) v)) in
@@ -418,77 +456,41 @@ block_held v f q held h long =
     ∙ ap₂ (λ (i j : ℕ). get_or (f i) j 0) block byte)
 
 -- a vector that holds blocks in the basis holds equal blocks in the basis
-pub basis_same : (v : List ℕ) (f g : ℕ → List ℕ) → ((q : ℕ) → f q ≡ g q) → HoldsInBasis v f → HoldsInBasis v g
+pub basis_same : {n : ℕ} (v : List ℕ) (f g : ℕ → List ℕ) → ((q : ℕ) → f q ≡ g q) → HoldsShifted n v f → HoldsShifted n v g
 basis_same v f g same held =
-    same_lanes v held (λ k l. ap (λ b. in_basis (get_or b (k % 16) 0)) (same (k / 16)))
+    same_lanes v held (λ k l. ap (λ b. in_basis (get_or b (row_source k % 16) 0)) (same (row_source k / 16)))
 
 -- a vector that holds blocks holds equal blocks
-pub blocks_same : (v : List ℕ) (f g : ℕ → List ℕ) → ((q : ℕ) → f q ≡ g q) → HoldsBlocks v f → HoldsBlocks v g
+pub blocks_same : {n : ℕ} (v : List ℕ) (f g : ℕ → List ℕ) → ((q : ℕ) → f q ≡ g q) → HoldsBlocks n v f → HoldsBlocks n v g
 blocks_same v f g same held = same_lanes v held (λ k l. ap (λ b. get_or b (k % 16) 0) (same (k / 16)))
 
--- ---- prepared round keys
-pub ready_lanes : (v k : List ℕ) (ws : List (List ℕ)) → HasLanes v (λ i. get_or k (i % 16) 0)
-    → ((i : ℕ) → i < 16 → get_or k i 0 ≡ ready_byte ws 0 i)
-    → HasLanes v (λ i. bit_xor (in_basis (key_byte ws i)) 0x7c)
-ready_lanes v k ws held is =
-    same_lanes v held (λ i l.
-    let first : 4 * 0 + i % 16 / 4 ≡ i % 16 / 4 = omega arith in
-    is (i % 16) (omega arith)
-    ∙ ap (λ (j : ℕ). bit_xor (in_basis (get_or (get_or ws j []) (i % 16 % 4) 0)) 0x7c) first)
-
--- a byte of the prepared round key n is that of the first prepared round key after 4n words are dropped
-pub ready_first : (ws : List (List ℕ)) (n i : ℕ) → ready_byte ws n i ≡ ready_byte (drop (4 * n) ws) 0 i
-ready_first ws n i =
+-- ---- ready round keys
+-- a byte of round key n is that of the first round key after 4n words are dropped
+pub word_first : (ws : List (List ℕ)) (n i : ℕ) → word_byte ws n i ≡ word_byte (drop (4 * n) ws) 0 i
+word_first ws n i =
     let first : 4 * 0 + i / 4 ≡ i / 4 = omega arith in
-    ap (λ w. bit_xor (in_basis (get_or w (i % 4) 0)) 0x7c)
+    ap (λ w. get_or w (i % 4) 0)
     (sym (get_or-drop (4 * n) ws (i / 4) []) ∙ ap (λ (j : ℕ). get_or (drop (4 * n) ws) j []) (sym first))
 
--- a byte of a round key in the basis, plus the constant, is a byte of the prepared round key
-pub ready_of : (k ws : List (List ℕ)) (n i : ℕ) → i < 16
-    → ((c : ℕ) → c < 4 → get_or k c [] ≡ get_or ws (4 * n + c) [])
-    → bit_xor (in_basis (key_byte k i)) 0x7c ≡ ready_byte ws n i
-ready_of k ws n i l same =
-    let place : i % 16 ≡ i = omega arith in
-    ap (λ (p : ℕ). bit_xor (in_basis (get_or (get_or k (p / 4) []) (p % 4) 0)) 0x7c) place
-    ∙ ap (λ w. bit_xor (in_basis (get_or w (i % 4) 0)) 0x7c) (same (i / 4) (omega arith))
+-- so is a byte of round key n made ready
+pub ready_first : (ws : List (List ℕ)) (n i : ℕ) → ready_byte ws n i ≡ ready_byte (drop (4 * n) ws) 0 i
+ready_first ws n i = ap (λ (b : ℕ). bit_xor (in_basis b) 0x7c) (word_first ws n i)
 
--- words that begin with the schedule give its prepared round keys
-pub ready_same : (ws : List (List ℕ)) (key : List ℕ) (n i : ℕ) → HasSchedule ws key → n ≤ round_count key
-    → i < 16 → ready_byte ws n i ≡ ready_byte (schedule key) n i
-ready_same ws key n i has h l =
-    ap (λ w. bit_xor (in_basis (get_or w (i % 4) 0)) 0x7c) (has (4 * n + i / 4) (omega arith))
-
--- a byte of the first round key of k made ready is that of round key n of ws, if their words are equal
-pub ready_moved : (k ws : List (List ℕ)) (n i : ℕ) → i < 16
-    → ((c : ℕ) → c < 4 → get_or k c [] ≡ get_or ws (4 * n + c) []) → ready_byte k 0 i ≡ ready_byte ws n i
-ready_moved k ws n i l same =
-    let first : 4 * 0 + i / 4 ≡ i / 4 = omega arith in
-    ap (λ (j : ℕ). bit_xor (in_basis (get_or (get_or k j []) (i % 4) 0)) 0x7c) first
-    ∙ ap (λ w. bit_xor (in_basis (get_or w (i % 4) 0)) 0x7c) (same (i / 4) (omega arith))
-
--- ---- one block, as four copies of it
--- a vector with four copies of the lanes of a block in the basis holds four times that block in the basis
-pub copies_in_basis : (v x b : List ℕ) → HasLanes v (λ i. get_or x (i % 16) 0) → IsInBasis x b
-    → HoldsInBasis v (λ q. b)
-copies_in_basis v x b held is = same_lanes v held (λ i l. is.each (i % 16) (omega arith))
-
--- the first sixteen lanes of a vector that holds four times a block in the basis hold the block in the basis
-pub first_in_basis : (x v b : List ℕ) → ((i : ℕ) → i < 16 → get_or x i 0 ≡ get_or v i 0)
-    → HoldsInBasis v (λ q. b) → IsInBasis x b
-first_in_basis x v b first held = record {
-  each = λ i l.
-      let own : i % 16 ≡ i = omega arith in
-      first i l ∙ held.each i (omega arith) ∙ ap (λ k. in_basis (get_or b k 0)) own;
+-- one block in sixteen lanes
+pub holds_one : (m : List ℕ) → length m ≡ 16 → HoldsBlocks 16 m (λ q. m)
+holds_one m long = record {
+  long = long;
+  each = λ k l. let own : k % 16 ≡ k = omega arith in ap (λ (i : ℕ). get_or m i 0) (sym own);
 }
 
--- the first sixteen lanes of a vector that holds four times a block are the block
-pub first_block : (x v b : List ℕ) → length x ≡ 16 → length b ≡ 16
-    → ((i : ℕ) → i < 16 → get_or x i 0 ≡ get_or v i 0) → HoldsBlocks v (λ q. b) → x ≡ b
-first_block x v b long size first held =
-    ext_get_or 0 x b (long ∙ sym size) (λ i l.
+-- sixteen lanes that hold one block are the block
+pub one_held : (v b : List ℕ) → length b ≡ 16 → HoldsBlocks 16 v (λ q. b) → v ≡ b
+one_held v b size held =
+    let long : length v ≡ 16 = held.long in
+    ext_get_or 0 v b (long ∙ sym size) (λ i l.
     let within : i < 16 = omega (arith, long) in
     let own : i % 16 ≡ i = omega arith in
-    first i within ∙ held.each i (omega arith) ∙ ap (λ k. get_or b k 0) own)
+    held.each i within ∙ ap (λ (k : ℕ). get_or b k 0) own)
 
 -- the bytes of columns of words are bytes
 pub word_small : (ws : List ℕ) (k r : ℕ) → get_or (get_or (columns_of ws) k []) r 0 < 256

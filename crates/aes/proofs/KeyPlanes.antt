@@ -1,6 +1,6 @@
 -- Round keys in planes of bits.
-use Rattle.std.proofs.Common.{◌≡◌, ℕ, zero, suc, ◌+◌, ◌-◌, ◌*◌, ◌/◌, ◌%◌, ◌^◌, ◌<◌, true, ◌&&◌, ◌==◌, ltb, List, []}
-use Rattle.std.proofs.Common.{◌∷◌, ◌++◌, map, get_or, length, replicate, refl, sym, ap, ◌∙◌, arith, bit_and, bit_xor}
+use Rattle.std.proofs.Common.{◌≡◌, ℕ, zero, suc, ◌+◌, ◌-◌, ◌/◌, ◌%◌, ◌^◌, ◌<◌, true, ◌&&◌, ◌==◌, ltb, List, []}
+use Rattle.std.proofs.Common.{◌∷◌, ◌++◌, map, get_or, length, replicate, refl, sym, ap, ◌∙◌, arith, bit_and}
 use Rattle.std.proofs.Common.{ltb-true}
 use Rattle.std.specs.Int.{bit_at}
 use Rattle.std.proofs.lemmas.Nat.Bits.{bit_at-zero, bit_at_ones, bit_at-lt, shr_and_one}
@@ -13,9 +13,8 @@ use mir.Syntax.{w8}
 use Rattle.std.specs.Int.{from_le_bytes, to_le_bytes, w128}
 use Rattle.octets.proofs.Numbers.{le_padded, le_word}
 use Rattle.aes.proofs.FourBlocks.{lane_fits}
-use Rattle.aes.specs.Code.Lanes.{key_byte}
 use Rattle.aes.specs.Code.Planes.{spot, word_byte}
-use Rattle.aes.specs.Code.Planes.{HoldsLanes, masked_byte}
+use Rattle.aes.specs.Code.Planes.{HoldsLanes, HoldsWords, masked_byte}
 use Rattle.aes.proofs.SixteenBlocks.{same_bytes}
 use Rattle.aes.proofs.Tested.{all_below, all_below_at}
 
@@ -100,14 +99,6 @@ written_back v n long fits read =
     ap (to_le_bytes w128) (read ∙ sym (le_word v long)) ∙ le_padded v (omega arith) (λ i. lane_fits v i fits)
     ∙ ap (λ (m : ℕ). v ++ replicate m 0) none ∙ append-nil v
 
--- byte i of the four words of round n is byte i of round key n
-pub word_of : (k ws : List (List ℕ)) (n i : ℕ) → i < 16
-    → ((c : ℕ) → c < 4 → get_or k c [] ≡ get_or ws (4 * n + c) []) → key_byte k i ≡ word_byte ws n i
-word_of k ws n i l same =
-    let place : i % 16 ≡ i = omega arith in
-    ap (λ (p : ℕ). get_or (get_or k (p / 4) []) (p % 4) 0) place
-    ∙ ap (λ w. get_or w (i % 4) 0) (same (i / 4) (omega arith))
-
 -- a lane and the same lane of the first half have the same place
 pub spot_half : (l : ℕ) → spot (l % 16) ≡ spot l
 spot_half l = omega arith
@@ -120,18 +111,12 @@ pub first_key : (v : List (List ℕ)) (key bytes : List ℕ) (ws : List (List �
 first_key v key bytes ws held rows words =
     same_bytes v held (λ l k hl hk. rows l hl ∙ words (spot l) (omega arith))
 
-pub middle_key : (v : List (List ℕ)) (key masked bytes : List ℕ) (ws : List (List ℕ)) (n : ℕ)
-    → HoldsLanes 16 v (λ l k. get_or key l 0)
-    → ((l : ℕ) → l < 16 → get_or key l 0 ≡ get_or masked (spot l) 0)
-    → ((i : ℕ) → i < 16 → get_or masked i 0 ≡ bit_xor (get_or bytes i 0) 0x63)
-    → ((i : ℕ) → i < 16 → get_or bytes i 0 ≡ word_byte ws n i) → HoldsLanes 16 v (λ l k. masked_byte ws n (spot l))
-middle_key v key masked bytes ws n held rows mask words =
-    same_bytes v held (λ l k hl hk.
-    rows l hl ∙ mask (spot l) (omega arith) ∙ ap (λ b. bit_xor b 0x63) (words (spot l) (omega arith)))
+-- planes of lanes hold what the lanes are
+pub key_held : (v : List (List ℕ)) (key : List ℕ) (f : ℕ → ℕ) → HoldsLanes 16 v (λ l k. get_or key l 0)
+    → ((l : ℕ) → l < 16 → get_or key l 0 ≡ f l) → HoldsLanes 16 v (λ l k. f l)
+key_held v key f held is = same_bytes v held (λ l k hl hk. is l hl)
 
-pub last_key : (v : List (List ℕ)) (masked bytes : List ℕ) (ws : List (List ℕ)) (n : ℕ)
-    → HoldsLanes 16 v (λ l k. get_or masked l 0)
-    → ((i : ℕ) → i < 16 → get_or masked i 0 ≡ bit_xor (get_or bytes i 0) 0x63)
-    → ((i : ℕ) → i < 16 → get_or bytes i 0 ≡ word_byte ws n i) → HoldsLanes 16 v (λ l k. masked_byte ws n l)
-last_key v masked bytes ws n held mask words =
-    same_bytes v held (λ l k hl hk. mask l hl ∙ ap (λ b. bit_xor b 0x63) (words l hl))
+-- the round keys before round key n, in planes
+pub record PlanesBegun (keys : List (List ℕ)) (ws : List (List ℕ)) (n : ℕ) : Type 0 where
+  pub first : HoldsWords (get_or keys 0 []) (λ l k. word_byte ws 0 (spot l))
+  pub middle : (k : ℕ) → 0 < k → k < n → HoldsWords (get_or keys k []) (λ l i. masked_byte ws k (spot l))

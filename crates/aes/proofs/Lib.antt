@@ -6,6 +6,7 @@ mod Tables
 mod Grids
 mod Rows
 mod Words
+mod Schedules
 mod Expanded
 mod Linear
 pub mod Steps
@@ -14,6 +15,7 @@ mod InverseRounds
 mod FourBlocks
 mod Substitution
 mod FourRounds
+mod MadeKeys
 pub mod Permutation
 mod Counting
 pub mod StreamSteps

@@ -46,7 +46,7 @@ stored_high p r f q hq made held = λ l k hl hk.
     made.each (4 + q) l k (omega arith) hl hk ∙ held.each k l (4 + q) hk hl (omega arith)
     ∙ ap (λ (a : ℕ). bit_at (get_or (f a) (l % 16) 0) k) e
 
-pub fours_same : (v : List ℕ) (f : ℕ → List ℕ) → HoldsBlocks v (λ q. f (4 + (8 + q))) → HoldsBlocks v (λ q. f (12 + q))
+pub fours_same : (v : List ℕ) (f : ℕ → List ℕ) → HoldsBlocks 64 v (λ q. f (4 + (8 + q))) → HoldsBlocks 64 v (λ q. f (12 + q))
 fours_same v f h = same_lanes v h (λ i l.
     let e : 4 + (8 + i / 16) ≡ 12 + i / 16 = omega arith in ap (λ (a : ℕ). get_or (f a) (i % 16) 0) e)
 
@@ -117,7 +117,7 @@ four_hold : (ps : List ℕ) (h : ℕ) → h < 2 → length ps ≡ 32
     → (a b c d : List ℕ) → length a ≡ 32 → length b ≡ 32 → length c ≡ 32 → length d ≡ 32
     → Each1 (Fits w8) a → Each1 (Fits w8) b → Each1 (Fits w8) c → Each1 (Fits w8) d
     → (f : ℕ → List ℕ) → ((q : ℕ) → IsBlock (f q)) → HasByteBits a f 0 → HasByteBits b f 1 → HasByteBits c f 2
-    → HasByteBits d f 3 → HoldsBlocks (four_halves ps a b c d) (λ q. f (8 * h + q))
+    → HasByteBits d f 3 → HoldsBlocks 64 (four_halves ps a b c d) (λ q. f (8 * h + q))
 four_hold ps h hh long test a b c d la lb lc ld fa fb fc fd f blocks ba bb bc bd =
     let s : List ℕ = map (λ p. get_or (a ++ b) p 0) ps in
     let t : List ℕ = map (λ p. get_or (c ++ d) p 0) ps in
@@ -164,7 +164,7 @@ four_hold ps h hh long test a b c d la lb lc ld fa fb fc fd f blocks ba bb bc bd
 pub first_halves : (a b c d : List ℕ) → length a ≡ 32 → length b ≡ 32 → length c ≡ 32 → length d ≡ 32
     → Each1 (Fits w8) a → Each1 (Fits w8) b → Each1 (Fits w8) c → Each1 (Fits w8) d
     → (f : ℕ → List ℕ) → ((q : ℕ) → IsBlock (f q)) → HasByteBits a f 0 → HasByteBits b f 1 → HasByteBits c f 2
-    → HasByteBits d f 3 → HoldsBlocks (four_halves low_places a b c d) f
+    → HasByteBits d f 3 → HoldsBlocks 64 (four_halves low_places a b c d) f
 first_halves a b c d la lb lc ld fa fb fc fd f blocks ba bb bc bd =
     same_lanes (four_halves low_places a b c d)
     (four_hold low_places 0 (omega arith) refl low_computed a b c d la lb lc ld fa fb fc fd f blocks ba bb bc bd)
@@ -173,6 +173,6 @@ first_halves a b c d la lb lc ld fa fb fc fd f blocks ba bb bc bd =
 pub second_halves : (a b c d : List ℕ) → length a ≡ 32 → length b ≡ 32 → length c ≡ 32 → length d ≡ 32
     → Each1 (Fits w8) a → Each1 (Fits w8) b → Each1 (Fits w8) c → Each1 (Fits w8) d
     → (f : ℕ → List ℕ) → ((q : ℕ) → IsBlock (f q)) → HasByteBits a f 0 → HasByteBits b f 1 → HasByteBits c f 2
-    → HasByteBits d f 3 → HoldsBlocks (four_halves high_places a b c d) (λ q. f (8 + q))
+    → HasByteBits d f 3 → HoldsBlocks 64 (four_halves high_places a b c d) (λ q. f (8 + q))
 second_halves a b c d la lb lc ld fa fb fc fd f blocks ba bb bc bd =
     four_hold high_places 1 (omega arith) refl high_computed a b c d la lb lc ld fa fb fc fd f blocks ba bb bc bd

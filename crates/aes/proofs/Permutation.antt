@@ -59,7 +59,7 @@ rot_word_is w h = four_word (get_or w 1 0) (get_or w 2 0) (get_or w 3 0) (get_or
     (h 0)
 
 -- a round constant consists of bytes
-rcon_is_word : (j : ℕ) → IsWord (rcon j)
+pub rcon_is_word : (j : ℕ) → IsWord (rcon j)
 unfolding rcon
 rcon_is_word j =
     let p : List Bool = residue modulus (x_power (j - 1)) in

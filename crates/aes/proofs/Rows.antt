@@ -1,6 +1,6 @@
 -- The rows of MixColumns as the code adds them, and the round constants.
 use Rattle.std.proofs.Common.{◌≡◌, ℕ, ◌+◌, ◌-◌, ◌<◌, true, ◌==◌, List, [], ◌∷◌, get_or, refl, sym, ap, ap₂}
-use Rattle.std.proofs.Common.{◌∙◌, arith, bit_xor, ltb, ltb-true}
+use Rattle.std.proofs.Common.{◌∙◌, arith, bit_xor}
 use Rattle.std.specs.Int.Bits.{xor_zero_r}
 use Rattle.std.proofs.lemmas.Bool.{eqb-true}
 use Rattle.octets.specs.Bits.{number}
@@ -22,17 +22,8 @@ pub four : {a b c d p q r s : ℕ} → a ≡ p → b ≡ q → c ≡ r → d ≡
 four e f g h = ap₂ (λ x y. x ∷ y) e (ap₂ (λ x y. x ∷ y) f (ap₂ (λ x y. x ∷ y) g (ap (λ x. x ∷ []) h)))
 
 -- the first bytes of the round constants, from Rcon[1] on, with 0 before them
-abbrev constants : List ℕ
+abbrev pub constants : List ℕ
 constants = 0 ∷ 1 ∷ 2 ∷ 4 ∷ 8 ∷ 16 ∷ 32 ∷ 64 ∷ 128 ∷ 27 ∷ 54 ∷ []
-
--- each of the constants is below 256, tested at each one
-constants_small : all_below (λ j. ltb (get_or constants j 0) 256) 11 ≡ true
-constants_small = refl
-
--- each of the constants is below 256
-pub constant_small : (j : ℕ) → j < 11 → get_or constants j 0 < 256
-constant_small j h = ltb-true (get_or constants j 0) 256
-    (all_below_at (λ j. ltb (get_or constants j 0) 256) 11 j constants_small h)
 
 -- each constant after the first is a power of x, tested at each one
 constants_computed : all_below (λ j. get_or constants (j + 1) 0 == number (residue modulus (x_power j))) 10

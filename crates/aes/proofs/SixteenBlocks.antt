@@ -8,11 +8,9 @@ use Rattle.octets.specs.Bytes.{IsBlock}
 use Rattle.aes.specs.Field.{times, sbox}
 use Rattle.aes.specs.Cipher.{sub_bytes, shift_rows, mix_columns, add_round_key}
 use Rattle.aes.specs.Code.Lanes.{linear_sbox, key_byte, row_source, row_below}
-use Rattle.std.proofs.Common.{drop, subst, ◌≤◌}
+use Rattle.std.proofs.Common.{drop}
 use Rattle.std.proofs.lemmas.List.{get_or-drop}
-use Rattle.aes.specs.Schedule.{round_count, schedule}
-use Rattle.aes.proofs.Expanded.{HasSchedule}
-use Rattle.aes.specs.Code.Planes.{HoldsLanes, HoldsWords, block_byte, spot, word_byte, masked_byte, AreReady}
+use Rattle.aes.specs.Code.Planes.{HoldsLanes, HoldsWords, block_byte, spot, word_byte, masked_byte}
 use Rattle.aes.specs.declared.planes.TheConstants.{SHIFTED, SHIFTED_OUT, BELOW, TWO_BELOW}
 use Rattle.aes.proofs.Tested.{all_below, all_below_at}
 use Rattle.aes.proofs.Multiples.{triple_is}
@@ -209,19 +207,3 @@ dropped_row ws n l = ap (λ b. bit_xor b 0x63) (dropped ws n (spot l) (omega ari
 pub dropped_last : (ws : List (List ℕ)) (n l : ℕ)
     → masked_byte ws n (l % 16) ≡ bit_xor (key_byte (drop (4 * n) ws) (l % 16)) 0x63
 dropped_last ws n l = ap (λ b. bit_xor b 0x63) (dropped ws n (l % 16) (omega arith))
-
--- words that begin with the schedule have the bytes of its round keys
-word_same : (ws : List (List ℕ)) (key : List ℕ) (n i : ℕ) → HasSchedule ws key → n ≤ round_count key → i < 16
-    → word_byte ws n i ≡ word_byte (schedule key) n i
-word_same ws key n i has h l = ap (λ w. get_or w (i % 4) 0) (has (4 * n + i / 4) (omega arith))
-
--- planes of the round keys of such words are planes of the round keys of the schedule
-pub ready_same_planes : (keys : List (List ℕ)) (ws : List (List ℕ)) (key : List ℕ) (last : ℕ)
-    → last ≡ round_count key → HasSchedule ws key → AreReady keys ws last → AreReady keys (schedule key) (round_count key)
-ready_same_planes keys ws key last e has ready = subst (λ n. AreReady keys (schedule key) n) e (record {
-  first = same_words _ ready.first (λ l k hl hk. word_same ws key 0 (spot l) has (omega arith) (omega arith));
-  middle = λ n h m. same_words _ (ready.middle n h m) (λ l k hl hk.
-      ap (λ b. bit_xor b 0x63) (word_same ws key n (spot l) has (omega arith) (omega arith)));
-  final = same_words _ ready.final (λ l k hl hk.
-      ap (λ b. bit_xor b 0x63) (word_same ws key last l has (omega arith) hl));
-})

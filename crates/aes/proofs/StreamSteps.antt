@@ -105,6 +105,14 @@ joined_blocks a b c d m f ha hb hc hd is ea eb ec ed (suc (suc (suc zero))) h =
     ∙ take_all 16 d (omega arith) ∙ ed
 joined_blocks a b c d m f ha hb hc hd is ea eb ec ed (suc (suc (suc (suc q)))) h = absurd (omega arith)
 
+-- the two blocks of a pair
+pub joined_pair : (a b m : List ℕ) (f : ℕ → List ℕ) → length a ≡ 16 → length b ≡ 16 → m ≡ a ++ b → a ≡ f 0 → b ≡ f 1
+    → (q : ℕ) → q < 2 → block_at m q ≡ f q
+joined_pair a b m f ha hb is ea eb zero h = ap (take 16) is ∙ take_at a b 16 ha ∙ ea
+joined_pair a b m f ha hb is ea eb (suc zero) h =
+    ap (λ l. take 16 (drop 16 l)) is ∙ ap (take 16) (drop_at a b 16 ha) ∙ take_all 16 b (omega arith) ∙ eb
+joined_pair a b m f ha hb is ea eb (suc (suc q)) h = absurd (omega arith)
+
 -- if no block is begun, XORing in the first bytes of the ciphers of the next blocks advances the stream
 pub began : {C : Type 0} (up : List ℕ → ℕ → List ℕ) (key : List ℕ) (s t : Counter C) (masks xs ys : List ℕ)
     → WrapsAround up

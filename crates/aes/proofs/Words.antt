@@ -1,18 +1,15 @@
 -- The words of a schedule.
-use Rattle.std.proofs.Common.{◌≡◌, ℕ, zero, suc, ◌+◌, ◌-◌, ◌*◌, ◌/◌, ◌%◌, ◌^◌, ◌<◌, ◌≤◌, cond, ◌==◌, ◌&&◌}
-use Rattle.std.proofs.Common.{List, [], ◌∷◌, ◌++◌, take, drop, get_or, length, flat_map, replicate, set, inl}
-use Rattle.std.proofs.Common.{inr, refl, sym, ap, ap₂, ◌∙◌, arith, lt-ltb, le-ltb, take-add, add-one}
+use Rattle.std.proofs.Common.{◌≡◌, ℕ, zero, suc, ◌+◌, ◌-◌, ◌*◌, ◌/◌, ◌%◌, ◌<◌, ◌≤◌, cond, ◌==◌, ◌&&◌}
+use Rattle.std.proofs.Common.{List, [], ◌∷◌, take, drop, get_or, length, set, inl}
+use Rattle.std.proofs.Common.{inr, refl, sym, ap, ap₂, ◌∙◌, arith, lt-ltb, le-ltb, add-one}
 use Rattle.std.proofs.lemmas.Bool.{cases_eq, cases_lt, and_parts, false_from_ne_true, eq-eqb, ne_eqb}
 use Rattle.std.proofs.lemmas.Bool.{eqb-true}
-use Rattle.std.proofs.lemmas.List.{get_or_append_left, get_or_push, get_or-append_right, get_or-replicate}
-use Rattle.std.proofs.lemmas.List.{length-replicate, length-append, ext_get_or, length_push, drop_more}
-use Rattle.std.proofs.lemmas.List.{flat_map_more, take_more, get_or-set_same, get_or-set_other, get_or-map}
-use Rattle.std.proofs.lemmas.List.{length-map, get_or_past}
-use Rattle.aes.specs.Code.Columns.{column_of, columns_of}
-use Rattle.aes.specs.Schedule.{schedule, xor_word, key_words, temp, next_word, words, sub_word, rot_word}
+use Rattle.std.proofs.lemmas.List.{get_or_append_left, get_or_push}
+use Rattle.std.proofs.lemmas.List.{length_push, drop_more}
+use Rattle.std.proofs.lemmas.List.{get_or-set_same, get_or-set_other}
+use Rattle.aes.specs.Code.Columns.{column_of}
+use Rattle.aes.specs.Schedule.{xor_word, key_words, temp, next_word, words, sub_word, rot_word}
 use Rattle.aes.specs.Schedule.{rcon, round_count, MeetsRecurrence}
-use Rattle.aes.specs.Code.KeptWords.{table}
-use Rattle.aes.specs.Code.ExpandedKey.{key_of}
 
 -- `words key n` has n words
 pub length_words : (key : List ℕ) (n : ℕ) → length (words key n) ≡ n
@@ -106,78 +103,6 @@ one_more_word f ws i v h before e k l =
       | inl g ↦ rw g (ap column_of (get_or-set_same ws i v 0 h) ∙ e)
       | inr g ↦ ap column_of (get_or-set_other ws i k v 0 g) ∙ before k (omega arith)
     ]
-
--- writing word i leaves the words after it 0
-pub others_stay : (ws : List ℕ) (i v : ℕ)
-    → ((k : ℕ) → i ≤ k → k < 60 → get_or ws k 0 ≡ 0) → (k : ℕ) → i + 1 ≤ k → k < 60
-    → get_or (set ws i v) k 0 ≡ 0
-others_stay ws i v after k h l =
-    let other : k ≡ i → ⊥ = λ e. omega arith in
-    get_or-set_other ws i k v 0 other ∙ after k (omega arith) l
-
--- if all words are below 2^32, they still are after writing one that is below 2^32
-pub small_words : (ws : List ℕ) (i v : ℕ) → v < 2 ^ 32 → ((k : ℕ) → get_or ws k 0 < 2 ^ 32) → (k : ℕ)
-    → get_or (set ws i v) k 0 < 2 ^ 32
-small_words [] i v h small k = small k
-small_words (w ∷ ws) zero v h small zero = h
-small_words (w ∷ ws) zero v h small (suc k) = small (suc k)
-small_words (w ∷ ws) (suc i) v h small zero = small zero
-small_words (w ∷ ws) (suc i) v h small (suc k) = small_words ws i v h (λ k. small (suc k)) k
-
--- each of sixty zero words is below 2^32
-pub zero_words : (k : ℕ) → get_or (replicate 60 0) k 0 < 2 ^ 32
-zero_words k =
-    elim (cases_lt k 60) [
-      | inl l ↦ rw (get_or-replicate {A = ℕ} 60 k 0 0 l) (omega arith)
-      | inr g ↦ rw (get_or_past (replicate {A = ℕ} 60 0) k 0 g) (omega arith)
-    ]
-
--- the `table` of a key begins with its schedule
-pub table_start : (key : List ℕ) (k : ℕ) → k < 4 * (round_count key + 1)
-    → get_or (table key) k [] ≡ get_or (schedule key) k []
-unfolding table
-table_start key k h =
-    get_or_append_left (schedule key) (replicate (60 - length (schedule key)) (replicate 4 0)) [] k
-    (omega (arith, length_words key (4 * (round_count key + 1))))
-
--- sixty words that begin with the schedule and are zero after it spell the table
-pub is_table : (ws key : List ℕ) → length ws ≡ 60 → 4 * (round_count key + 1) ≤ 60
-    → ((k : ℕ) → k < 4 * (round_count key + 1) → column_of (get_or ws k 0) ≡ word key k)
-    → ((k : ℕ) → 4 * (round_count key + 1) ≤ k → k < 60 → get_or ws k 0 ≡ 0) → columns_of ws ≡ table key
-unfolding table column_of
-is_table ws key long short start after =
-    let n : ℕ = 4 * (round_count key + 1) in
-    let m : ℕ = 60 - length (schedule key) in
-    let zeros : List (List ℕ) = replicate m (replicate 4 0) in
-    let size : length (schedule key) ≡ n = length_words key n in
-    let size_zeros : length zeros ≡ m = length-replicate m (replicate 4 0) in
-    let size_table : length (schedule key ++ zeros) ≡ 60 = length-append (schedule key) zeros ∙ omega arith in
-    let columns : length (columns_of ws) ≡ 60 = length-map ws column_of ∙ long in
-    ext_get_or [] (columns_of ws) (schedule key ++ zeros) (columns ∙ sym size_table)
-    (λ k l.
-    get_or-map column_of ws k 0 [] (omega arith)
-    ∙ elim (cases_lt k n) [
-      | inl g ↦
-          start k g ∙ sym (words_at key n k g)
-          ∙ sym (get_or_append_left (schedule key) zeros [] k (omega arith))
-      | inr g ↦
-          ap column_of (after k g (omega arith))
-          ∙ sym (get_or-append_right (schedule key) zeros n k [] size g
-          ∙ get_or-replicate m (k - n) (replicate 4 0) [] (omega arith))
-    ])
-
--- if the first n words are those of the key, they spell the first 4n bytes of the key
-pub key_of_words : (ws : List (List ℕ)) (key : List ℕ) (n : ℕ) → n ≤ length ws
-    → ((k : ℕ) → k < n → get_or ws k [] ≡ take 4 (drop (4 * k) key)) → key_of ws n ≡ take (4 * n) key
-key_of_words ws key zero h same = refl
-key_of_words ws key (suc n) h same =
-    let four_more : 4 * suc n ≡ 4 * n + 4 = omega arith in
-    ap (λ i. flat_map (λ w. w) (take i ws)) (sym (add-one n))
-    ∙ ap (flat_map (λ w. w)) (take_more ws n [] (omega arith))
-    ∙ sym (flat_map_more (λ w. w) [] (take n ws) (get_or ws n []))
-    ∙ ap₂ (λ x y. x ++ y) (key_of_words ws key n (omega arith) (λ k l. same k (omega arith)))
-    (same n (omega arith))
-    ∙ sym (ap (λ i. take i key) four_more ∙ take-add (4 * n) 4 key)
 
 -- the law `MeetsRecurrence`
 pub meets_recurrence : MeetsRecurrence

@@ -7,5 +7,5 @@ pub mod Nibbles
 pub mod Planes
 pub mod Wraps
 pub mod Columns
-pub mod KeptWords
+pub mod ReadyKeys
 pub mod Streams

@@ -33,6 +33,15 @@ fn concat(a: &[u8; 16], b: &[u8; 16], c: &[u8; 16], d: &[u8; 16]) -> [u8; 64]
     four
 }
 
+// Concatenates two blocks.
+fn concat_two(a: &[u8; 16], b: &[u8; 16]) -> [u8; 32]
+    ensures { result ≡ a.now ++ b.now }
+{
+    let mut two = [0; 32];
+    two.copy_from_slice([*a, *b].as_flattened());
+    two
+}
+
 // XORs sixteen blocks, given in fours, into 256 bytes. All lengths are constants, so that the blocks stay in registers.
 #[inline(always)]
 fn xor_fours(bytes: &mut [u8], a: &[u8; 64], b: &[u8; 64], c: &[u8; 64], d: &[u8; 64])
@@ -155,7 +164,7 @@ impl KnownBlock {
         if self.is_known && same(&self.block, block.bytes()) {
             return Block::new(self.cipher);
         }
-        key.encrypt(block)
+        key.encrypt_in_registers(block)
     }
 }
 
@@ -197,7 +206,6 @@ struct Counter<C> {
 
 impl<C: Count> Counter<C> {
     ghost use Rattle.aes.specs.Code.Streams.{Makes, Advances, AdvancesFront, KnowsCipher};
-    ghost use Rattle.aes.specs.Code.Lanes.{IsReady};
     ghost use Rattle.aes.specs.Code.Planes.{AreReady, AreMasks, HoldsSixteen};
     ghost use Rattle.aes.specs.Schedule.{schedule, round_count};
 
@@ -279,7 +287,7 @@ impl<C: Count> Counter<C> {
         ensures advances { Advances C.up key.now self.old self.new bytes.old bytes.new }
         ensures used { self.new.used ≡ length bytes.old % 16 }
     {
-        let mask = key.encrypt(&C::block(&self.first, self.block_count));
+        let mask = key.encrypt_in_registers(&C::block(&self.first, self.block_count));
         self.mask_with(mask.bytes(), bytes);
     }
 
@@ -293,6 +301,16 @@ impl<C: Count> Counter<C> {
         let third = C::block(&self.first, self.block_count.wrapping_add(2));
         let fourth = C::block(&self.first, self.block_count.wrapping_add(3));
         concat(first.bytes(), second.bytes(), third.bytes(), fourth.bytes())
+    }
+
+    // The next two counter blocks.
+    #[inline(always)]
+    fn two(&self) -> [u8; 32]
+        ensures { (q : ℕ) → q < 2 → block_at result q ≡ C.up self.now.first ((self.now.block_count + q) % 2 ^ 32) }
+    {
+        let first = C::block(&self.first, self.block_count);
+        let second = C::block(&self.first, self.block_count.wrapping_add(1));
+        concat_two(first.bytes(), second.bytes())
     }
 
     // The next sixteen counter blocks, in planes. Up to the block where the low half of the byte at `LOW` passes 15 they differ
@@ -313,15 +331,25 @@ impl<C: Count> Counter<C> {
         )
     }
 
+    // XORs in the first bytes of the next two blocks. Every earlier block is used up.
+    fn mask_two(&mut self, key: &AesKey, bytes: &mut [u8])
+        requires none { self.old.used ≡ 0 }
+        requires room { length bytes.old ≤ 32 }
+        ensures advances { Advances C.up key.now self.old self.new bytes.old bytes.new }
+        ensures used { self.new.used ≡ length bytes.old % 16 }
+    {
+        let masks = key.encrypt_two(&self.two());
+        self.mask_with(&masks, bytes);
+    }
+
     // XORs in the first bytes of the next four blocks. Every earlier block is used up.
-    fn mask_four(&mut self, key: &AesKey, words: &[[u8; 16]; 15], bytes: &mut [u8])
-        requires ready { IsReady words.now key.now }
+    fn mask_four(&mut self, key: &AesKey, bytes: &mut [u8])
         requires none { self.old.used ≡ 0 }
         requires room { length bytes.old ≤ 64 }
         ensures advances { Advances C.up key.now self.old self.new bytes.old bytes.new }
         ensures used { self.new.used ≡ length bytes.old % 16 }
     {
-        let masks = key.encrypt_ready(words, &self.four());
+        let masks = key.encrypt_four(&self.four());
         self.mask_with(&masks, bytes);
     }
 
@@ -401,11 +429,10 @@ impl<C: Count> Counter<C> {
         if bytes.len() <= FOUR_PAY {
             return 0;
         }
-        let words = key.ready();
         let mut done = 0;
         'fours: while bytes.len() - done > FOUR_PAY {
             let next = (bytes.len() - done).min(64);
-            self.mask_four(key, &words, &mut bytes[done..done + next]);
+            self.mask_four(key, &mut bytes[done..done + next]);
             done += next;
         }
         done
@@ -430,12 +457,17 @@ impl<C: Count> Counter<C> {
         done + self.apply_fours(key, &mut bytes[done..])
     }
 
-    // XORs in runs of blocks and then single blocks, the last one perhaps in part. Every earlier block is used up.
+    // XORs in runs of blocks, then pairs and single blocks, the last one perhaps in part. Every earlier block is used up.
     fn apply_blocks(&mut self, key: &AesKey, bytes: &mut [u8])
         requires { self.old.used ≡ 0 }
         ensures { Advances C.up key.now self.old self.new bytes.old bytes.new }
     {
         let mut done = self.apply_runs(key, bytes);
+        'pairs: while bytes.len() - done > 16 {
+            let next = (bytes.len() - done).min(32);
+            self.mask_two(key, &mut bytes[done..done + next]);
+            done += next;
+        }
         'singles: while done < bytes.len() {
             let next = (bytes.len() - done).min(16);
             self.mask_block(key, &mut bytes[done..done + next]);

@@ -1,41 +1,42 @@
-//! An expanded key, and the cipher under it (FIPS 197, 5.1 and 5.2), on one block, or four, eight or sixteen at once.
+//! An expanded key, and the cipher under it (FIPS 197, 5.1 and 5.2), on one block, or two, four, eight or sixteen at once.
 
-ghost use Rattle.std.specs.Prelude.{◌≡◌, ℕ, ◌<◌, ◌+◌, ◌*◌, ◌/◌, ◌%◌, length, slice_index, List, MatchResult};
+ghost use Rattle.std.specs.Prelude.{◌≡◌, ℕ, ◌≤◌, ◌<◌, ◌+◌, ◌*◌, ◌/◌, ◌%◌, length, slice_index, slice_index_or, get_or, List, []};
+ghost use Rattle.std.specs.Prelude.{MatchResult};
 ghost use Rattle.octets.specs.Bytes.{IsBlock, block_at};
 ghost use Rattle.aes.specs.Cipher.{cipher, IsKey, IsKeyLength, IsPreimage};
 ghost use Rattle.aes.specs.Code.ExpandedKey.{own_key};
 ghost use Rattle.aes.specs.Code.InverseKey.{IsInverse};
-ghost use Rattle.aes.specs.Code.Lanes.{IsReady};
-ghost use Rattle.aes.specs.Code.KeptWords.{KeepsSchedule};
-ghost use Rattle.aes.specs.Code.Planes.{AreReady, HoldsBits, HoldsEight, HoldsLanes, HoldsSixteen};
-ghost use Rattle.aes.specs.Schedule.{schedule, round_count};
+ghost use Rattle.aes.specs.Code.Lanes.{HoldsBlocks, row_target};
+ghost use Rattle.aes.specs.Code.Columns.{column_of, columns_of};
+ghost use Rattle.aes.specs.Code.Planes.{AreReady, HoldsBits, HoldsEight, HoldsLanes, HoldsSixteen, word_byte};
+ghost use Rattle.aes.specs.Code.ReadyKeys.{KeepsReadyKeys};
+ghost use Rattle.aes.specs.Schedule.{schedule, round_count, word};
 
-use crate::columns::{add_key, last_round, load, round, round_key, store};
+use crate::columns::{add_key, last_round, load, round, store};
 use crate::inverse::unmix_words;
 use crate::inverse_key::InverseKey;
 use crate::key_planes::{KeyPlanes, ready_planes, unpack};
-use crate::lanes::{
-    first_four, first_one, last_four, last_one, ready_keys, round_four, round_one, spread,
-};
+use crate::lanes::{self, Lanes, from_basis};
 use crate::planes::{self, BitPlanes, HalfPlanes, Planes, both_halves, lower, upper};
 use crate::schedule::expand;
 use octets::{Block, Fault, Key16, Key24, Key32, WIDE};
 use std::marker::Model;
 use std::simd::prelude::*;
-use std::simd::u8x64;
+use std::simd::{u8x16, u8x32, u8x64};
 
-/// A key of AES with its schedule (FIPS 197, 5.2). Contracts see the key's bytes: 16, 24 or 32.
+/// A key of AES with its round keys (FIPS 197, 5.2). Contracts see the key's bytes: 16, 24 or 32.
 ///
-/// Not constant time. Making a key looks up the S-box, a table of 256 bytes, by bytes of the schedule, and so of the key.
-/// `encrypt` looks up four tables of 256 words, 4 KiB in all, by each byte of the state in each round; the first state is the
-/// block XORed with a round key. `inverse` and `decrypt` look up tables by bytes of the schedule and of the state: see
-/// [`InverseKey`]. Code on the same processor may learn from the cache which entries were read, and from these the key.
+/// Making a key, `encrypt_in_registers`, `encrypt_two` and `encrypt_four` have their tables of 16 bytes in vectors: no branch and no address in
+/// memory depends on a byte of the key or of a block.
 ///
-/// `encrypt_in_registers` and `encrypt_four` have their tables of 16 bytes in vectors, and read no table in memory by a byte of
-/// the key or of the state. Their time is not claimed to be constant either.
+/// `encrypt` is not constant time: it looks up four tables of 256 words, 4 KiB in all, by each byte of the state in each round;
+/// the first state is the block XORed with a round key. `inverse` and `decrypt` look up tables by bytes of the schedule and of
+/// the state: see [`InverseKey`]. Code on the same processor may learn from the cache which entries were read, and from these
+/// the key.
 #[derive(Clone, Copy)]
 pub struct AesKey {
-    words: [u32; 60],
+    // The round keys as the rounds in lanes take them, and zeros after them.
+    keys: [[u8; 16]; 15],
     size: usize,
 }
 
@@ -44,12 +45,11 @@ impl Model for AesKey {
 
     ghost Value = { List ℕ };
 
-    ghost use Rattle.aes.specs.Code.Columns.{columns_of};
     ghost use Rattle.aes.specs.Code.ExpandedKey.{key_of, IsExpanded, fields_of, fields_of-key_of};
 
-    ghost view = { λ a. key_of (columns_of a.words) a.size };
+    ghost view = { λ a. key_of a.keys a.size };
 
-    ghost invariant = { λ a. IsExpanded a.words a.size };
+    ghost invariant = { λ a. IsExpanded a.keys a.size };
 
     ghost inverse = { fields_of };
 
@@ -85,13 +85,21 @@ impl KeptKey for &AesKey {
     }
 }
 
+// Moves the rows of a block back to where they were before ShiftRows.
+#[inline(always)]
+fn unshift_rows(x: u8x16) -> u8x16
+    ensures { (i : ℕ) → i < 16 → slice_index result i ≡ slice_index x (row_target i) }
+{
+    x.swizzle([0, 13, 10, 7, 4, 1, 14, 11, 8, 5, 2, 15, 12, 9, 6, 3])
+}
+
 impl AesKey {
     /// Makes the key of AES-128 with these 16 bytes. Its cipher has 10 rounds (FIPS 197, 5).
     pub fn new128(key: &Key16) -> AesKey
         ensures { result ≡ key.now }
     {
         AesKey {
-            words: expand(key.bytes(), 4),
+            keys: expand(key.bytes(), 4),
             size: 4,
         }
     }
@@ -101,7 +109,7 @@ impl AesKey {
         ensures { result ≡ key.now }
     {
         AesKey {
-            words: expand(key.bytes(), 6),
+            keys: expand(key.bytes(), 6),
             size: 6,
         }
     }
@@ -111,13 +119,12 @@ impl AesKey {
         ensures { result ≡ key.now }
     {
         AesKey {
-            words: expand(key.bytes(), 8),
+            keys: expand(key.bytes(), 8),
             size: 8,
         }
     }
 
-    /// Makes the key with these bytes: 16, 24 or 32. Any other length is `KeyLength`, the only fault (FIPS 197, 5). Not
-    /// constant time: the schedule looks up the S-box by bytes of the key.
+    /// Makes the key with these bytes: 16, 24 or 32. Any other length is `KeyLength`, the only fault (FIPS 197, 5).
     pub fn from_slice(key: &[u8]) -> Result<AesKey, Fault>
         ensures { MatchResult result (λ k. (k ≡ key.now) × IsKey key.now)
             (λ e. (e ≡ Fault.KeyLength) × ¬ IsKeyLength (length key.now)) }
@@ -129,50 +136,122 @@ impl AesKey {
             _ => return Err(Fault::KeyLength),
         };
         Ok(AesKey {
-            words: expand(key, size),
+            keys: expand(key, size),
             size,
         })
     }
 
-    /// Returns the words of the schedule, each with its first byte least significant, and zeros after them (FIPS 197, 5.2), for
-    /// a caller that stores plain numbers.
-    pub fn words(&self) -> [u32; 60]
-        ensures { KeepsSchedule result self.now }
+    /// Returns the round keys in the form in which the rounds take them, and zeros after them, for a caller that stores plain
+    /// bytes. The first round key is as the standard has it (FIPS 197, 5.2).
+    pub fn ready_keys(&self) -> [[u8; 16]; 15]
+        ensures { KeepsReadyKeys result self.now }
     {
-        self.words
+        self.keys
     }
 
-    /// Makes the key with these bytes, for which `words` returned these words. The caller shows that they are its schedule.
-    // Inlined, so that the words are copied once.
+    /// Makes the key with these bytes, for which `ready_keys` returned these round keys. The caller shows that they are its
+    /// round keys.
+    // Inlined, so that the keys are copied once.
     #[inline(always)]
-    pub fn from_words(words: &[u32; 60], key: &[u8]) -> AesKey
+    pub fn from_ready_keys(keys: &[[u8; 16]; 15], key: &[u8]) -> AesKey
         requires long { IsKeyLength (length key.now) }
-        requires schedule { KeepsSchedule words.now key.now }
+        requires keys { KeepsReadyKeys keys.now key.now }
         ensures value { result ≡ key.now }
         ensures is_key { IsKey key.now }
     {
         AesKey {
-            words: *words,
+            keys: *keys,
             size: key.len() / 4,
         }
     }
 
-    /// Returns the block of 16 bytes that the cipher takes `block` to (FIPS 197, 5.1).
+    // A round key as the standard has it (FIPS 197, 5.2).
+    #[inline(always)]
+    fn plain_key(&self, n: usize) -> [u8; 16]
+        requires { n < 15 }
+        ensures { n ≤ round_count self.now
+            → (i : ℕ) → i < 16 → slice_index result i ≡ word_byte (schedule self.now) n i }
+    {
+        let key = u8x16::from_array(self.keys[n]);
+        if n == 0 {
+            return key.to_array();
+        }
+        if n == self.size + 6 {
+            return key.sum(u8x16::splat(0x63)).to_array();
+        }
+        from_basis(unshift_rows(key.sum(u8x16::splat(0x7c)))).to_array()
+    }
+
+    // The round keys as the standard has them, and zeros after them (FIPS 197, 5.2).
+    pub(crate) fn plain_keys(&self) -> [[u8; 16]; 15]
+        ensures { (n i : ℕ) → n ≤ round_count self.now → i < 16
+            → slice_index (slice_index_or result n []) i ≡ word_byte (schedule self.now) n i }
+    {
+        let mut keys = [[0; 16]; 15];
+        for n in 0..self.size + 7 {
+            keys[n] = self.plain_key(n);
+        }
+        keys
+    }
+
+    // The four words of a round key, as columns.
+    #[inline(always)]
+    fn round_key(&self, n: usize) -> [u32; 4]
+        requires { n < 15 }
+        ensures { n ≤ round_count self.now
+            → (c : ℕ) → c < 4 → get_or (columns_of result) c [] ≡ get_or (schedule self.now) (4 * n + c) [] }
+    {
+        self.is_key();
+        load(&self.plain_key(n))
+    }
+
+    // The words of the schedule, and zeros after them (FIPS 197, 5.2).
+    fn words(&self) -> [u32; 60]
+        ensures { (k : ℕ) → k < 4 * (round_count self.now + 1) → column_of (slice_index result k) ≡ word self.now k }
+    {
+        let mut words = [0; 60];
+        for n in 0..self.size + 7 {
+            let key = self.round_key(n);
+            words[4 * n] = key[0];
+            words[4 * n + 1] = key[1];
+            words[4 * n + 2] = key[2];
+            words[4 * n + 3] = key[3];
+        }
+        words
+    }
+
+    /// Returns the block of 16 bytes that the cipher takes `block` to (FIPS 197, 5.1), by the tables of [`round`](crate::round).
     ///
     /// Not constant time: each round but the last looks up four tables of 256 words by the 16 bytes of its state, and the last
-    /// looks up the S-box in the same tables.
+    /// looks up the S-box in the same tables. `encrypt_in_registers` returns the same block, faster, and looks up nothing in
+    /// memory.
     pub fn encrypt(&self, block: &Block) -> Block
         ensures value { result ≡ cipher self.now block.now }
         ensures is_block { IsBlock result }
         ensures is_key { IsKey self.now }
     {
         let count = self.size + 6;
-        let mut state = add_key(load(block.bytes()), round_key(&self.words, 0));
+        let mut state = add_key(load(block.bytes()), self.round_key(0));
         for done in 0..count - 1 {
-            let next = round(state, round_key(&self.words, done + 1));
+            let next = round(state, self.round_key(done + 1));
             state = next;
         }
-        Block::new(store(last_round(state, round_key(&self.words, count))))
+        Block::new(store(last_round(state, self.round_key(count))))
+    }
+
+    // Encrypts one, two or four blocks in the lanes of a vector.
+    #[inline(always)]
+    fn encrypt_lanes<V: Lanes>(&self, blocks: V) -> V
+        ensures { (f : ℕ → List ℕ) → ((q : ℕ) → IsBlock (f q)) → HoldsBlocks V.count (V.lanes blocks) f
+            → HoldsBlocks V.count (V.lanes result) (λ q. cipher self.now (f q)) }
+    {
+        let count = self.size + 6;
+        let mut state = lanes::first(blocks, self.keys[0]);
+        for done in 0..count - 1 {
+            let next = lanes::round(state, self.keys[done + 1]);
+            state = next;
+        }
+        lanes::last(state, self.keys[count])
     }
 
     /// Returns the block of 16 bytes that the cipher takes `block` to, as `encrypt` does (FIPS 197, 5.1). It looks up no table
@@ -182,37 +261,20 @@ impl AesKey {
         ensures is_block { IsBlock result }
         ensures is_key { IsKey self.now }
     {
-        let count = self.size + 6;
-        let mut lanes = first_one(block.bytes(), round_key(&self.words, 0));
-        for done in 0..count - 1 {
-            let next = round_one(lanes, round_key(&self.words, done + 1));
-            lanes = next;
-        }
-        Block::new(last_one(lanes, round_key(&self.words, count)))
+        self.is_key();
+        Block::new(
+            self.encrypt_lanes(u8x16::from_array(*block.bytes()))
+                .to_array(),
+        )
     }
 
-    // The round keys in the basis that `encrypt_ready` uses.
-    pub(crate) fn ready(&self) -> [[u8; 16]; 15]
-        ensures { IsReady result self.now }
+    /// Returns the ciphers of two concatenated blocks, each of 16 bytes (FIPS 197, 5.1). It looks up no table in memory: its
+    /// tables of 16 bytes are vectors, as are the bytes that index them.
+    pub fn encrypt_two(&self, blocks: &[u8; 32]) -> [u8; 32]
+        ensures { (q : ℕ) → q < 2 → block_at result q ≡ cipher self.now (block_at blocks.now q) }
     {
-        ready_keys(&self.words, self.size + 6)
-    }
-
-    // Encrypts four concatenated blocks with the round keys that `ready` returned.
-    pub(crate) fn encrypt_ready(&self, keys: &[[u8; 16]; 15], blocks: &[u8; 64]) -> [u8; 64]
-        requires { IsReady keys.now self.now }
-        ensures { (q : ℕ) → q < 4 → block_at result q ≡ cipher self.now (block_at blocks.now q) }
-    {
-        let count = self.size + 6;
-        let mut lanes = first_four(
-            u8x64::from_array(*blocks),
-            spread(round_key(&self.words, 0)),
-        );
-        for done in 0..count - 1 {
-            let next = round_four(lanes, keys[done + 1]);
-            lanes = next;
-        }
-        last_four(lanes, spread(round_key(&self.words, count))).to_array()
+        self.is_key();
+        self.encrypt_lanes(u8x32::from_array(*blocks)).to_array()
     }
 
     /// Returns the ciphers of four concatenated blocks, each of 16 bytes (FIPS 197, 5.1). It looks up no table in memory: its
@@ -220,14 +282,15 @@ impl AesKey {
     pub fn encrypt_four(&self, blocks: &[u8; 64]) -> [u8; 64]
         ensures { (q : ℕ) → q < 4 → block_at result q ≡ cipher self.now (block_at blocks.now q) }
     {
-        self.encrypt_ready(&self.ready(), blocks)
+        self.is_key();
+        self.encrypt_lanes(u8x64::from_array(*blocks)).to_array()
     }
 
     // Writes the round keys as planes of bits, for eight blocks.
     pub(crate) fn make_planes(&self, keys: &mut [KeyPlanes; 15])
         ensures { AreReady keys.new (schedule self.now) (round_count self.now) }
     {
-        ready_planes(keys, &self.words, self.size + 6);
+        ready_planes(keys, &self.keys, self.size + 6);
     }
 
     // Encrypts eight blocks in planes, in place. Both halves of sixteen blocks call it.
@@ -329,7 +392,7 @@ impl AesKey {
     pub fn inverse(&self) -> InverseKey
         ensures { IsInverse result self.now }
     {
-        InverseKey::new(unmix_words(&self.words, self.size + 6), self.size)
+        InverseKey::new(unmix_words(&self.words(), self.size + 6), self.size)
     }
 
     /// Returns the block of 16 bytes that the cipher takes to `block`; it is the only one (FIPS 197, 5.3). To decrypt many

@@ -1,13 +1,15 @@
 //! The round keys of AES (FIPS 197, 5.2) as eight planes of bits each, for eight blocks.
 
-ghost use Rattle.std.specs.Prelude.{◌≡◌, ℕ, ◌<◌};
+ghost use Rattle.std.specs.Prelude.{◌≡◌, ℕ, ◌<◌, List};
 ghost use Rattle.std.specs.Prelude.{slice_index, bit_xor, length};
 ghost use Rattle.std.specs.Int.{bit_at, to_le_bytes, w128};
-ghost use Rattle.aes.specs.Code.Columns.{columns_of};
-ghost use Rattle.aes.specs.Code.Planes.{HoldsLanes, HoldsWords, spot, word_byte, AreReady};
+ghost use Rattle.aes.specs.Cipher.{IsKey};
+ghost use Rattle.aes.specs.Code.Lanes.{row_target, row_source, AreBytes};
+ghost use Rattle.aes.specs.Code.Planes.{HoldsLanes, HoldsWords, spot, masked_byte, AreReady};
+ghost use Rattle.aes.specs.Code.ReadyKeys.{ready_byte, KeepsReadyKeys};
+ghost use Rattle.aes.specs.Schedule.{schedule, round_count};
 
-use crate::columns::round_key;
-use crate::lanes::{first_sixteen, spread as spread_four};
+use crate::lanes::from_basis;
 use crate::planes::HalfPlanes;
 use octets::le_bytes;
 use std::simd::prelude::*;
@@ -95,24 +97,6 @@ pub(crate) fn unpack(words: &KeyPlanes) -> HalfPlanes
     ]
 }
 
-// The 16 bytes of a round key.
-#[inline(always)]
-fn key_bytes(words: &[u32; 60], round: usize) -> u8x16
-    requires { round < 15 }
-    ensures long { length result ≡ 16 }
-    ensures bytes { (i : ℕ) → i < 16 → slice_index result i ≡ word_byte (columns_of words.now) round i }
-{
-    first_sixteen(spread_four(round_key(words, round)))
-}
-
-// Adds the constant of the S-box, which the S-box in planes leaves out, to each byte of a round key.
-#[inline(always)]
-fn with_constant(key: u8x16) -> u8x16
-    ensures { (i : ℕ) → i < 16 → slice_index result i ≡ bit_xor (slice_index key i) 0x63 }
-{
-    key ^ u8x16::splat(0x63)
-}
-
 // Moves bytes from the order of a block to the order of lanes, row by row.
 #[inline(always)]
 pub(crate) fn rows(key: u8x16) -> u8x16
@@ -121,15 +105,36 @@ pub(crate) fn rows(key: u8x16) -> u8x16
     key.swizzle([0, 4, 8, 12, 1, 5, 9, 13, 2, 6, 10, 14, 3, 7, 11, 15])
 }
 
-// Writes the round keys as planes for eight blocks. Every key but the first has the constant of the S-box added, and the last
-// is in the order of the bytes of a block. They are written in place, since returning them would copy 1,920 bytes.
-pub(crate) fn ready_planes(keys: &mut [KeyPlanes; 15], words: &[u32; 60], last: usize)
-    requires { (0 < last) × (last < 15) }
-    ensures { AreReady keys.new (columns_of words.now) last }
+// Moves bytes from the order of a block after ShiftRows to the order of lanes, row by row.
+#[inline(always)]
+fn unshifted_rows(key: u8x16) -> u8x16
+    ensures { (l : ℕ) → l < 16 → slice_index result l ≡ slice_index key (row_target (spot l)) }
 {
-    keys[0] = pack(spread(rows(key_bytes(words, 0))));
+    key.swizzle([0, 4, 8, 12, 13, 1, 5, 9, 10, 14, 2, 6, 7, 11, 15, 3])
+}
+
+// A round key between the first and the last, row by row, with the constant of the S-box: the basis takes the one that it has
+// there to the one that it has here.
+#[inline(always)]
+fn middle(key: [u8; 16]) -> u8x16
+    ensures { (ws : List (List ℕ)) (n : ℕ) → AreBytes ws
+        → ((i : ℕ) → i < 16 → slice_index key i ≡ ready_byte ws n (row_source i))
+        → (l : ℕ) → l < 16 → slice_index result l ≡ masked_byte ws n (spot l) }
+{
+    from_basis(unshifted_rows(u8x16::from_array(key)))
+}
+
+// Writes the round keys as planes for eight blocks. Every key but the first has the constant of the S-box added, which the S-box
+// in planes leaves out, and the last is in the order of the bytes of a block. They are written in place, since returning them
+// would copy 1,920 bytes.
+pub(crate) fn ready_planes(keys: &mut [KeyPlanes; 15], ready: &[[u8; 16]; 15], last: usize)
+    requires { (0 < last) × (last < 15) }
+    ensures { (key : List ℕ) → IsKey key → KeepsReadyKeys ready.now key → last ≡ round_count key
+        → AreReady keys.new (schedule key) last }
+{
+    keys[0] = pack(spread(rows(u8x16::from_array(ready[0]))));
     for n in 1..last {
-        keys[n] = pack(spread(rows(with_constant(key_bytes(words, n)))));
+        keys[n] = pack(spread(middle(ready[n])));
     }
-    keys[last] = pack(spread(with_constant(key_bytes(words, last))));
+    keys[last] = pack(spread(u8x16::from_array(ready[last])));
 }

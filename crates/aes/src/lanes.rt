@@ -1,19 +1,20 @@
-//! Four blocks at once, or one (FIPS 197, 5.1), with look-ups in tables of sixteen bytes. The tables are vectors: none is read
-//! from memory. The field of 256 elements is seen as an extension of its subfield of 16, so that an inverse takes five
-//! look-ups. 0x80 stands for the inverse of 0.
+//! Blocks in vectors (FIPS 197, 5.1): one in a vector of 16 bytes, two in 32, four in 64, with look-ups in tables of sixteen
+//! bytes. The tables are vectors: none is read from memory, so no address depends on a key or a block. The field of 256 elements
+//! is seen as an extension of its subfield of 16, so that an inverse takes five look-ups. 0x80 stands for the inverse of 0.
+//!
+//! Between two rounds the bytes are in the basis of that extension, and ShiftRows of the next round has been applied to them.
 
-ghost use Rattle.std.specs.Prelude.{◌≡◌, ℕ, ◌%◌, ◌<◌, ◌≤◌, ◌/◌, List, [], slice_index, slice_index_or};
-ghost use Rattle.std.specs.Prelude.{length, bit_xor};
+ghost use Rattle.std.specs.Prelude.{◌≡◌, ℕ, ◌%◌, ◌<◌, ◌/◌, List, slice_index, length, nat_lt, true, refl, bit_xor};
 ghost use Rattle.octets.specs.Bytes.{IsBlock};
-ghost use Rattle.aes.specs.Field.{times, sbox};
+ghost use Rattle.aes.specs.Field.{times};
 ghost use Rattle.aes.specs.Cipher.{sub_bytes, shift_rows, mix_columns, add_round_key};
-ghost use Rattle.aes.specs.Code.Columns.{columns_of};
-ghost use Rattle.aes.specs.Code.Lanes.{HasLanes, IsPlace, entry, key_byte, row_source, row_below, row_above};
-ghost use Rattle.aes.specs.Code.Lanes.{in_basis, linear_sbox, HoldsBlocks, HoldsInBasis, IsInBasis, ready_byte};
+ghost use Rattle.aes.specs.Code.Lanes.{HasLanes, IsPlace, entry, row_source, row_below, row_above, AreBytes};
+ghost use Rattle.aes.specs.Code.Lanes.{in_basis, linear_sbox, HoldsBlocks, HoldsShifted};
+ghost use Rattle.aes.specs.Code.Planes.{word_byte, masked_byte};
+ghost use Rattle.aes.specs.Code.ReadyKeys.{ready_byte};
 
-use crate::columns::round_key;
 use std::simd::prelude::*;
-use std::simd::{u8x16, u8x64, u32x4};
+use std::simd::{u8x16, u8x32, u8x64};
 
 // The bytes below 16, in the basis.
 const TO_LOW: [u8; 16] = [
@@ -23,6 +24,16 @@ const TO_LOW: [u8; 16] = [
 // The multiples of 16, in the basis.
 const TO_HIGH: [u8; 16] = [
     0x00, 0xc9, 0xef, 0x26, 0xcd, 0x04, 0x22, 0xeb, 0x2e, 0xe7, 0xc1, 0x08, 0xe3, 0x2a, 0x0c, 0xc5,
+];
+
+// The bytes whose coordinates in the basis are below 16.
+const FROM_LOW: [u8; 16] = [
+    0x00, 0x01, 0x0c, 0x0d, 0x50, 0x51, 0x5c, 0x5d, 0xb0, 0xb1, 0xbc, 0xbd, 0xe0, 0xe1, 0xec, 0xed,
+];
+
+// The bytes whose coordinates in the basis are multiples of 16.
+const FROM_HIGH: [u8; 16] = [
+    0x00, 0x09, 0x6c, 0x65, 0xe6, 0xef, 0x8a, 0x83, 0x47, 0x4e, 0x2b, 0x22, 0xa1, 0xa8, 0xcd, 0xc4,
 ];
 
 // The inverses in the subfield.
@@ -79,211 +90,351 @@ const ROWS_BELOW: [usize; 64] = [
     51, 48, 53, 54, 55, 52, 57, 58, 59, 56, 61, 62, 63, 60,
 ];
 
-// The index one row up in the same column; row 3 is above row 0.
-const ROWS_ABOVE: [usize; 64] = [
-    3, 0, 1, 2, 7, 4, 5, 6, 11, 8, 9, 10, 15, 12, 13, 14, 19, 16, 17, 18, 23, 20, 21, 22, 27, 24,
-    25, 26, 31, 28, 29, 30, 35, 32, 33, 34, 39, 36, 37, 38, 43, 40, 41, 42, 47, 44, 45, 46, 51, 48,
-    49, 50, 55, 52, 53, 54, 59, 56, 57, 58, 63, 60, 61, 62,
+// The index one row below that from which ShiftRows moves each byte.
+const SHIFTED_BELOW: [usize; 64] = [
+    1, 6, 11, 12, 5, 10, 15, 0, 9, 14, 3, 4, 13, 2, 7, 8, 17, 22, 27, 28, 21, 26, 31, 16, 25, 30,
+    19, 20, 29, 18, 23, 24, 33, 38, 43, 44, 37, 42, 47, 32, 41, 46, 35, 36, 45, 34, 39, 40, 49, 54,
+    59, 60, 53, 58, 63, 48, 57, 62, 51, 52, 61, 50, 55, 56,
 ];
 
-// Four copies of sixteen bytes, one for each block.
-#[inline(always)]
-fn four_times(bytes: u8x16) -> u8x64
-    ensures { HasLanes result (λ i. slice_index bytes (i % 16)) }
-{
-    bytes.swizzle([
-        0, 1, 2, 3, 4, 5, 6, 7, 8, 9, 10, 11, 12, 13, 14, 15, 0, 1, 2, 3, 4, 5, 6, 7, 8, 9, 10, 11,
-        12, 13, 14, 15, 0, 1, 2, 3, 4, 5, 6, 7, 8, 9, 10, 11, 12, 13, 14, 15, 0, 1, 2, 3, 4, 5, 6,
-        7, 8, 9, 10, 11, 12, 13, 14, 15,
-    ])
+// The index one row above that from which ShiftRows moves each byte.
+const SHIFTED_ABOVE: [usize; 64] = [
+    3, 4, 9, 14, 7, 8, 13, 2, 11, 12, 1, 6, 15, 0, 5, 10, 19, 20, 25, 30, 23, 24, 29, 18, 27, 28,
+    17, 22, 31, 16, 21, 26, 35, 36, 41, 46, 39, 40, 45, 34, 43, 44, 33, 38, 47, 32, 37, 42, 51, 52,
+    57, 62, 55, 56, 61, 50, 59, 60, 49, 54, 63, 48, 53, 58,
+];
+
+// The first 16 entries of ROW_SOURCES, ROWS_BELOW, SHIFTED_BELOW and SHIFTED_ABOVE, for a vector of one block.
+const ONE_ROW_SOURCES: [usize; 16] = [0, 5, 10, 15, 4, 9, 14, 3, 8, 13, 2, 7, 12, 1, 6, 11];
+
+const ONE_ROWS_BELOW: [usize; 16] = [1, 2, 3, 0, 5, 6, 7, 4, 9, 10, 11, 8, 13, 14, 15, 12];
+
+const ONE_SHIFTED_BELOW: [usize; 16] = [1, 6, 11, 12, 5, 10, 15, 0, 9, 14, 3, 4, 13, 2, 7, 8];
+
+const ONE_SHIFTED_ABOVE: [usize; 16] = [3, 4, 9, 14, 7, 8, 13, 2, 11, 12, 1, 6, 15, 0, 5, 10];
+
+// Their first 32 entries, for a vector of two blocks.
+const TWO_ROW_SOURCES: [usize; 32] = [
+    0, 5, 10, 15, 4, 9, 14, 3, 8, 13, 2, 7, 12, 1, 6, 11, 16, 21, 26, 31, 20, 25, 30, 19, 24, 29,
+    18, 23, 28, 17, 22, 27,
+];
+
+const TWO_ROWS_BELOW: [usize; 32] = [
+    1, 2, 3, 0, 5, 6, 7, 4, 9, 10, 11, 8, 13, 14, 15, 12, 17, 18, 19, 16, 21, 22, 23, 20, 25, 26,
+    27, 24, 29, 30, 31, 28,
+];
+
+const TWO_SHIFTED_BELOW: [usize; 32] = [
+    1, 6, 11, 12, 5, 10, 15, 0, 9, 14, 3, 4, 13, 2, 7, 8, 17, 22, 27, 28, 21, 26, 31, 16, 25, 30,
+    19, 20, 29, 18, 23, 24,
+];
+
+const TWO_SHIFTED_ABOVE: [usize; 32] = [
+    3, 4, 9, 14, 7, 8, 13, 2, 11, 12, 1, 6, 15, 0, 5, 10, 19, 20, 25, 30, 23, 24, 29, 18, 27, 28,
+    17, 22, 31, 16, 21, 26,
+];
+
+// A vector of one, two or four blocks.
+pub(crate) trait Lanes: Copy {
+    // How many lanes it has.
+    ghost count: { ℕ };
+
+    // The lanes.
+    ghost lanes: { Self → List ℕ };
+
+    // Copies of sixteen bytes, one for each block.
+    fn copies(bytes: [u8; 16]) -> Self
+        ensures { HasLanes count (lanes result) (λ i. slice_index bytes (i % 16)) };
+
+    // Looks each lane up in the table.
+    fn look_up(table: [u8; 16], at: Self) -> Self
+        requires { (k : ℕ) → k < count → IsPlace (slice_index (lanes at) k) }
+        ensures { HasLanes count (lanes result) (λ k. entry table (slice_index (lanes at) k)) };
+
+    // The low nibble of each lane.
+    fn low_nibbles(self) -> Self
+        ensures nibbles { HasLanes count (lanes result) (λ k. slice_index (lanes self) k % 16) }
+        ensures bytes { (k : ℕ) → slice_index (lanes self) k < 256 };
+
+    // The high nibble of each lane.
+    fn high_nibbles(self) -> Self
+        ensures { HasLanes count (lanes result) (λ k. slice_index (lanes self) k / 16) };
+
+    // Adds the lanes.
+    fn sum(self, other: Self) -> Self
+        ensures { HasLanes count (lanes result) (λ k. bit_xor (slice_index (lanes self) k) (slice_index (lanes other) k)) };
+
+    // ShiftRows in each block.
+    fn shift_rows(self) -> Self
+        ensures { HasLanes count (lanes result) (λ i. slice_index (lanes self) (row_source i)) };
+
+    // Moves each column up by one row; row 0 becomes row 3.
+    fn rows_up(self) -> Self
+        ensures { HasLanes count (lanes result) (λ i. slice_index (lanes self) (row_below i)) };
+
+    // Moves each column up by one row, and then shifts the rows.
+    fn shifted_up(self) -> Self
+        ensures { HasLanes count (lanes result) (λ i. slice_index (lanes self) (row_below (row_source i))) };
+
+    // Moves each column down by one row, and then shifts the rows.
+    fn shifted_down(self) -> Self
+        ensures { HasLanes count (lanes result) (λ i. slice_index (lanes self) (row_above (row_source i))) };
+
+    // There are at most four blocks, each in 16 lanes.
+    ghost few: { nat_lt count 65 ≡ true };
+
+    ghost whole: { count % 16 ≡ 0 };
 }
 
-// Looks each lane up in the table.
-#[inline(always)]
-fn look_up(table: [u8; 16], at: u8x64) -> u8x64
-    requires { (k : ℕ) → k < 64 → IsPlace (slice_index at k) }
-    ensures { HasLanes result (λ k. entry table (slice_index at k)) }
-{
-    four_times(u8x16::from_array(table)).swizzle_dyn_within::<16>(at)
+impl Lanes for u8x16 {
+    ghost count = { 16 };
+
+    ghost lanes = { λ v. v };
+
+    ghost few = { refl };
+
+    ghost whole = { refl };
+
+    #[inline(always)]
+    fn copies(bytes: [u8; 16]) -> u8x16 {
+        u8x16::from_array(bytes)
+    }
+
+    #[inline(always)]
+    fn look_up(table: [u8; 16], at: u8x16) -> u8x16 {
+        u8x16::copies(table).swizzle_dyn_within::<16>(at)
+    }
+
+    #[inline(always)]
+    fn low_nibbles(self) -> u8x16 {
+        self & u8x16::splat(15)
+    }
+
+    #[inline(always)]
+    fn high_nibbles(self) -> u8x16 {
+        self >> u8x16::splat(4)
+    }
+
+    #[inline(always)]
+    fn sum(self, other: u8x16) -> u8x16 {
+        self ^ other
+    }
+
+    #[inline(always)]
+    fn shift_rows(self) -> u8x16 {
+        self.swizzle(ONE_ROW_SOURCES)
+    }
+
+    #[inline(always)]
+    fn rows_up(self) -> u8x16 {
+        self.swizzle(ONE_ROWS_BELOW)
+    }
+
+    #[inline(always)]
+    fn shifted_up(self) -> u8x16 {
+        self.swizzle(ONE_SHIFTED_BELOW)
+    }
+
+    #[inline(always)]
+    fn shifted_down(self) -> u8x16 {
+        self.swizzle(ONE_SHIFTED_ABOVE)
+    }
 }
 
-// The low nibble of each lane.
-#[inline(always)]
-fn low_nibbles(x: u8x64) -> u8x64
-    ensures { HasLanes result (λ k. slice_index x k % 16) }
-{
-    x & u8x64::splat(15)
+impl Lanes for u8x32 {
+    ghost count = { 32 };
+
+    ghost lanes = { λ v. v };
+
+    ghost few = { refl };
+
+    ghost whole = { refl };
+
+    #[inline(always)]
+    fn copies(bytes: [u8; 16]) -> u8x32 {
+        u8x16::from_array(bytes).swizzle([
+            0, 1, 2, 3, 4, 5, 6, 7, 8, 9, 10, 11, 12, 13, 14, 15, 0, 1, 2, 3, 4, 5, 6, 7, 8, 9, 10,
+            11, 12, 13, 14, 15,
+        ])
+    }
+
+    #[inline(always)]
+    fn look_up(table: [u8; 16], at: u8x32) -> u8x32 {
+        u8x32::copies(table).swizzle_dyn_within::<16>(at)
+    }
+
+    #[inline(always)]
+    fn low_nibbles(self) -> u8x32 {
+        self & u8x32::splat(15)
+    }
+
+    #[inline(always)]
+    fn high_nibbles(self) -> u8x32 {
+        self >> u8x32::splat(4)
+    }
+
+    #[inline(always)]
+    fn sum(self, other: u8x32) -> u8x32 {
+        self ^ other
+    }
+
+    #[inline(always)]
+    fn shift_rows(self) -> u8x32 {
+        self.swizzle(TWO_ROW_SOURCES)
+    }
+
+    #[inline(always)]
+    fn rows_up(self) -> u8x32 {
+        self.swizzle(TWO_ROWS_BELOW)
+    }
+
+    #[inline(always)]
+    fn shifted_up(self) -> u8x32 {
+        self.swizzle(TWO_SHIFTED_BELOW)
+    }
+
+    #[inline(always)]
+    fn shifted_down(self) -> u8x32 {
+        self.swizzle(TWO_SHIFTED_ABOVE)
+    }
 }
 
-// The high nibble of each lane.
-#[inline(always)]
-fn high_nibbles(x: u8x64) -> u8x64
-    ensures { HasLanes result (λ k. slice_index x k / 16) }
-{
-    x >> u8x64::splat(4)
-}
+impl Lanes for u8x64 {
+    ghost count = { 64 };
 
-// Adds the lanes.
-#[inline(always)]
-fn sum(x: u8x64, y: u8x64) -> u8x64
-    ensures { HasLanes result (λ k. bit_xor (slice_index x k) (slice_index y k)) }
-{
-    x ^ y
+    ghost lanes = { λ v. v };
+
+    ghost few = { refl };
+
+    ghost whole = { refl };
+
+    #[inline(always)]
+    fn copies(bytes: [u8; 16]) -> u8x64 {
+        u8x16::from_array(bytes).swizzle([
+            0, 1, 2, 3, 4, 5, 6, 7, 8, 9, 10, 11, 12, 13, 14, 15, 0, 1, 2, 3, 4, 5, 6, 7, 8, 9, 10,
+            11, 12, 13, 14, 15, 0, 1, 2, 3, 4, 5, 6, 7, 8, 9, 10, 11, 12, 13, 14, 15, 0, 1, 2, 3,
+            4, 5, 6, 7, 8, 9, 10, 11, 12, 13, 14, 15,
+        ])
+    }
+
+    #[inline(always)]
+    fn look_up(table: [u8; 16], at: u8x64) -> u8x64 {
+        u8x64::copies(table).swizzle_dyn_within::<16>(at)
+    }
+
+    #[inline(always)]
+    fn low_nibbles(self) -> u8x64 {
+        self & u8x64::splat(15)
+    }
+
+    #[inline(always)]
+    fn high_nibbles(self) -> u8x64 {
+        self >> u8x64::splat(4)
+    }
+
+    #[inline(always)]
+    fn sum(self, other: u8x64) -> u8x64 {
+        self ^ other
+    }
+
+    #[inline(always)]
+    fn shift_rows(self) -> u8x64 {
+        self.swizzle(ROW_SOURCES)
+    }
+
+    #[inline(always)]
+    fn rows_up(self) -> u8x64 {
+        self.swizzle(ROWS_BELOW)
+    }
+
+    #[inline(always)]
+    fn shifted_up(self) -> u8x64 {
+        self.swizzle(SHIFTED_BELOW)
+    }
+
+    #[inline(always)]
+    fn shifted_down(self) -> u8x64 {
+        self.swizzle(SHIFTED_ABOVE)
+    }
 }
 
 // Changes each lane into the basis.
 #[inline(always)]
-fn to_basis(x: u8x64) -> u8x64
-    ensures { HasLanes result (λ k. in_basis (slice_index x k)) }
+pub(crate) fn to_basis<V: Lanes>(x: V) -> V
+    ensures { HasLanes V.count (V.lanes result) (λ k. in_basis (slice_index (V.lanes x) k)) }
 {
-    sum(
-        look_up(TO_LOW, low_nibbles(x)),
-        look_up(TO_HIGH, high_nibbles(x)),
-    )
+    let low = x.low_nibbles();
+    let high = x.high_nibbles();
+    V::look_up(TO_LOW, low).sum(V::look_up(TO_HIGH, high))
+}
+
+// Changes each lane back from the basis.
+#[inline(always)]
+pub(crate) fn from_basis<V: Lanes>(x: V) -> V
+    ensures { (s : ℕ → ℕ) → ((k : ℕ) → k < V.count → s k < 256) → HasLanes V.count (V.lanes x) (λ k. in_basis (s k))
+        → HasLanes V.count (V.lanes result) s }
+{
+    let low = x.low_nibbles();
+    let high = x.high_nibbles();
+    V::look_up(FROM_LOW, low).sum(V::look_up(FROM_HIGH, high))
 }
 
 // Applies the S-box without its constant to bytes in the basis. Returns the values, the values in the basis, and their doubles
-// in the basis.
+// in the basis. LLVM leaves out those that a caller does not use.
 #[inline(always)]
-fn substitute(x: u8x64) -> (u8x64, u8x64, u8x64)
-    ensures { (s : ℕ → ℕ) → ((k : ℕ) → k < 64 → s k < 256) → HasLanes x (λ k. in_basis (s k))
-        → HasLanes result.0 (λ k. linear_sbox (s k))
-        × HasLanes result.1 (λ k. in_basis (linear_sbox (s k)))
-        × HasLanes result.2 (λ k. in_basis (times 2 (linear_sbox (s k)))) }
+pub(crate) fn substitute<V: Lanes>(x: V) -> (V, V, V)
+    ensures { (s : ℕ → ℕ) → ((k : ℕ) → k < V.count → s k < 256) → HasLanes V.count (V.lanes x) (λ k. in_basis (s k))
+        → HasLanes V.count (V.lanes result.0) (λ k. linear_sbox (s k))
+        × HasLanes V.count (V.lanes result.1) (λ k. in_basis (linear_sbox (s k)))
+        × HasLanes V.count (V.lanes result.2) (λ k. in_basis (times 2 (linear_sbox (s k)))) }
 {
-    let low = low_nibbles(x);
-    let high = high_nibbles(x);
-    let both = sum(low, high);
-    let scaled = look_up(SCALED, low);
-    let first = sum(look_up(INVERSE, high), scaled);
-    let second = sum(look_up(INVERSE, both), scaled);
-    let u = sum(look_up(INVERSE, first), both);
-    let t = sum(look_up(INVERSE, second), high);
+    let low = x.low_nibbles();
+    let high = x.high_nibbles();
+    let both = low.sum(high);
+    let scaled = V::look_up(SCALED, low);
+    let first = V::look_up(INVERSE, high).sum(scaled);
+    let second = V::look_up(INVERSE, both).sum(scaled);
+    let u = V::look_up(INVERSE, first).sum(both);
+    let t = V::look_up(INVERSE, second).sum(high);
     (
-        sum(look_up(PLAIN_BY_FIRST, u), look_up(PLAIN_BY_SECOND, t)),
-        sum(look_up(ONCE_BY_FIRST, u), look_up(ONCE_BY_SECOND, t)),
-        sum(look_up(TWICE_BY_FIRST, u), look_up(TWICE_BY_SECOND, t)),
+        V::look_up(PLAIN_BY_FIRST, u).sum(V::look_up(PLAIN_BY_SECOND, t)),
+        V::look_up(ONCE_BY_FIRST, u).sum(V::look_up(ONCE_BY_SECOND, t)),
+        V::look_up(TWICE_BY_FIRST, u).sum(V::look_up(TWICE_BY_SECOND, t)),
     )
 }
 
-// ShiftRows in each block.
+// AddRoundKey before the first round, the change of basis, and ShiftRows of the first round.
 #[inline(always)]
-fn shift_rows(x: u8x64) -> u8x64
-    ensures { HasLanes result (λ i. slice_index x (row_source i)) }
+pub(crate) fn first<V: Lanes>(x: V, key: [u8; 16]) -> V
+    ensures { (f : ℕ → List ℕ) (ws : List (List ℕ)) → HoldsBlocks V.count (V.lanes x) f
+        → ((i : ℕ) → i < 16 → slice_index key i ≡ word_byte ws 0 i)
+        → HoldsShifted V.count (V.lanes result) (λ q. add_round_key ws 0 (f q)) }
 {
-    x.swizzle(ROW_SOURCES)
+    to_basis(x.sum(V::copies(key)).shift_rows())
 }
 
-// Moves each column up by one row; row 0 becomes row 3.
+// Any round but the last (FIPS 197, 5.1), with a round key in the basis whose rows are shifted. ShiftRows of this round was
+// applied before, and that of the next round is part of the places from which the sums are moved.
 #[inline(always)]
-fn rows_up(x: u8x64) -> u8x64
-    ensures { HasLanes result (λ i. slice_index x (row_below i)) }
+pub(crate) fn round<V: Lanes>(x: V, key: [u8; 16]) -> V
+    ensures { (f : ℕ → List ℕ) (ws : List (List ℕ)) → ((q : ℕ) → IsBlock (f q)) → AreBytes ws
+        → HoldsShifted V.count (V.lanes x) f
+        → ((i : ℕ) → i < 16 → slice_index key i ≡ ready_byte ws 0 (row_source i))
+        → HoldsShifted V.count (V.lanes result) (λ q. add_round_key ws 0 (mix_columns (shift_rows (sub_bytes (f q))))) }
 {
-    x.swizzle(ROWS_BELOW)
+    let (_, once, twice) = substitute(x);
+    let upper = twice.sum(once.rows_up());
+    let lower = once.shifted_down().sum(V::copies(key));
+    upper.shift_rows().sum(lower).sum(upper.shifted_up())
 }
 
-// Moves each column down by one row; row 3 becomes row 0.
+// The last round, whose result is no longer in the basis.
 #[inline(always)]
-fn rows_down(x: u8x64) -> u8x64
-    ensures { HasLanes result (λ i. slice_index x (row_above i)) }
+pub(crate) fn last<V: Lanes>(x: V, key: [u8; 16]) -> V
+    ensures { (f : ℕ → List ℕ) (ws : List (List ℕ)) → ((q : ℕ) → IsBlock (f q)) → HoldsShifted V.count (V.lanes x) f
+        → ((i : ℕ) → i < 16 → slice_index key i ≡ masked_byte ws 0 i)
+        → HoldsBlocks V.count (V.lanes result) (λ q. add_round_key ws 0 (shift_rows (sub_bytes (f q)))) }
 {
-    x.swizzle(ROWS_ABOVE)
-}
-
-// Four copies of a round key, one for each block.
-#[inline(always)]
-pub(crate) fn spread(key: [u32; 4]) -> u8x64
-    ensures { HasLanes result (key_byte (columns_of key)) }
-{
-    four_times(u32x4::from_array([key[0], key[1], key[2], key[3]]).to_le_bytes())
-}
-
-// AddRoundKey before the first round, and then the change of basis.
-#[inline(always)]
-pub(crate) fn first_four(x: u8x64, key: u8x64) -> u8x64
-    ensures { (f : ℕ → List ℕ) (ws : List (List ℕ)) → HoldsBlocks x f → HasLanes key (key_byte ws)
-        → HoldsInBasis result (λ q. add_round_key ws 0 (f q)) }
-{
-    to_basis(sum(x, key))
-}
-
-// The first sixteen lanes.
-#[inline(always)]
-pub(crate) fn first_sixteen(x: u8x64) -> u8x16
-    ensures { (i : ℕ) → i < 16 → slice_index result i ≡ slice_index x i }
-{
-    x.swizzle([0, 1, 2, 3, 4, 5, 6, 7, 8, 9, 10, 11, 12, 13, 14, 15])
-}
-
-// A round key in the basis, with the constant of the S-box added, which `substitute` leaves out.
-#[inline(always)]
-fn ready_key(key: [u32; 4]) -> [u8; 16]
-    ensures { (i : ℕ) → i < 16 → slice_index result i ≡ ready_byte (columns_of key) 0 i }
-{
-    first_sixteen(sum(to_basis(spread(key)), u8x64::splat(0x7c))).to_array()
-}
-
-// The round keys in the basis, each as `ready_key` makes it.
-pub(crate) fn ready_keys(words: &[u32; 60], last: usize) -> [[u8; 16]; 15]
-    requires { last < 15 }
-    ensures { (n i : ℕ) → n ≤ last → i < 16
-        → slice_index (slice_index_or result n []) i ≡ ready_byte (columns_of words.now) n i }
-{
-    let mut keys = [[0; 16]; 15];
-    for n in 0..last + 1 {
-        keys[n] = ready_key(round_key(words, n));
-    }
-    keys
-}
-
-// Any round but the last in each block (FIPS 197, 5.1), with a round key of `ready_keys`.
-#[inline(always)]
-pub(crate) fn round_four(x: u8x64, key: [u8; 16]) -> u8x64
-    ensures { (f : ℕ → List ℕ) (ws : List (List ℕ)) → ((q : ℕ) → IsBlock (f q))
-        → ((k r : ℕ) → slice_index (slice_index_or ws k []) r < 256) → HoldsInBasis x f
-        → ((i : ℕ) → i < 16 → slice_index key i ≡ ready_byte ws 0 i)
-        → HoldsInBasis result (λ q. add_round_key ws 0 (mix_columns (shift_rows (sub_bytes (f q))))) }
-{
-    let (_, once, twice) = substitute(shift_rows(x));
-    let upper = sum(twice, rows_up(once));
-    let lower = sum(rows_up(upper), rows_down(once));
-    sum(sum(upper, lower), four_times(u8x16::from_array(key)))
-}
-
-// The last round in each block, whose result is no longer in the basis.
-#[inline(always)]
-pub(crate) fn last_four(x: u8x64, key: u8x64) -> u8x64
-    ensures { (f : ℕ → List ℕ) (ws : List (List ℕ)) → ((q : ℕ) → IsBlock (f q)) → HoldsInBasis x f
-        → HasLanes key (key_byte ws)
-        → HoldsBlocks result (λ q. add_round_key ws 0 (shift_rows (sub_bytes (f q)))) }
-{
-    let (plain, _, _) = substitute(shift_rows(x));
-    sum(plain, sum(key, u8x64::splat(0x63)))
-}
-
-// AddRoundKey before the first round of one block, and then the change of basis. The steps for one block are those for four
-// copies of it. The lanes of three copies are not used, so LLVM leaves out their instructions.
-#[inline(always)]
-pub(crate) fn first_one(block: &[u8; 16], key: [u32; 4]) -> u8x16
-    ensures { IsInBasis result (add_round_key (columns_of key) 0 block.now) }
-{
-    first_sixteen(first_four(four_times(u8x16::from_array(*block)), spread(key)))
-}
-
-// Any round but the last of one block (FIPS 197, 5.1).
-#[inline(always)]
-pub(crate) fn round_one(x: u8x16, key: [u32; 4]) -> u8x16
-    ensures { (b : List ℕ) → IsBlock b → IsInBasis x b
-        → IsInBasis result (add_round_key (columns_of key) 0 (mix_columns (shift_rows (sub_bytes b)))) }
-{
-    first_sixteen(round_four(four_times(x), ready_key(key)))
-}
-
-// The last round of one block, whose result is no longer in the basis.
-#[inline(always)]
-pub(crate) fn last_one(x: u8x16, key: [u32; 4]) -> [u8; 16]
-    ensures { (b : List ℕ) → IsBlock b → IsInBasis x b
-        → result ≡ add_round_key (columns_of key) 0 (shift_rows (sub_bytes b)) }
-{
-    first_sixteen(last_four(four_times(x), spread(key))).to_array()
+    let (plain, _, _) = substitute(x);
+    plain.sum(V::copies(key))
 }

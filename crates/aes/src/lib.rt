@@ -1,6 +1,8 @@
 //! AES with keys of 128, 192 and 256 bits, both ways (FIPS 197), and its streams of counting blocks (SP 800-38D, RFC 8452).
 //!
-//! Most calls are not constant time: [`AesKey`] says which table is looked up by which secret bytes.
+//! [`AesKey::encrypt_in_registers`] and [`AesKey::encrypt_four`], the streams, and the making of a key read no table in memory by
+//! a secret byte. [`AesKey::encrypt`], [`round`] and the inverse cipher are not constant time: [`AesKey`] says which table is
+//! looked up by which secret bytes.
 //!
 //! From `crates/aes/src/uses.rt`:
 //! ```
@@ -10,7 +12,7 @@
 //!         (λ e. (e ≡ Fault.KeyLength) × ¬ IsKeyLength (length key.now)) }
 //! {
 //!     let key = AesKey::from_slice(key)?;
-//!     Ok(key.encrypt(block))
+//!     Ok(key.encrypt_in_registers(block))
 //! }
 //! ```
 #![tactic(auto)]

@@ -529,7 +529,7 @@ fn transpose(p: Planes) -> Planes
 fn halves(a: u8x32, b: u8x32, c: u8x32, d: u8x32) -> (u8x64, u8x64)
     ensures { (f : ℕ → List ℕ) → ((q : ℕ) → IsBlock (f q)) → HasByteBits a f 0 → HasByteBits b f 1
         → HasByteBits c f 2 → HasByteBits d f 3
-        → HoldsBlocks result.0 f × HoldsBlocks result.1 (λ q. f (8 + q)) }
+        → HoldsBlocks 64 result.0 f × HoldsBlocks 64 result.1 (λ q. f (8 + q)) }
 {
     let first = a.shuffle(b, FIRST_OF_TWO);
     let second = c.shuffle(d, FIRST_OF_TWO);
@@ -543,8 +543,8 @@ fn halves(a: u8x32, b: u8x32, c: u8x32, d: u8x32) -> (u8x64, u8x64)
 pub(crate) fn store(p: Planes) -> (u8x64, u8x64, u8x64, u8x64)
     ensures { (f : ℕ → List ℕ) → ((q : ℕ) → IsBlock (f q))
         → HoldsBits p (λ l k. slice_index (f (l / 16 * 8 + k)) (l % 16))
-        → HoldsBlocks result.0 f × HoldsBlocks result.1 (λ q. f (4 + q))
-        × HoldsBlocks result.2 (λ q. f (8 + q)) × HoldsBlocks result.3 (λ q. f (12 + q)) }
+        → HoldsBlocks 64 result.0 f × HoldsBlocks 64 result.1 (λ q. f (4 + q))
+        × HoldsBlocks 64 result.2 (λ q. f (8 + q)) × HoldsBlocks 64 result.3 (λ q. f (12 + q)) }
 {
     let blocks = transpose(p);
     let (first, third) = halves(blocks[0], blocks[1], blocks[2], blocks[3]);

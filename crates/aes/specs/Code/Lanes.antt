@@ -1,14 +1,13 @@
--- Four blocks in a vector of 64 bytes, one in a vector of 16, and the bytes of the field in another basis.
-use Rattle.std.specs.Prelude.{◌≤◌, ◌≡◌, ℕ, ◌+◌, ◌*◌, ◌/◌, ◌%◌, ◌<◌, true, ◌||◌, nat_le, nat_lt, List, []}
+-- Blocks in a vector of bytes: one in 16 lanes, two in 32, four in 64; and the bytes of the field in another basis.
+use Rattle.std.specs.Prelude.{◌≡◌, ℕ, ◌+◌, ◌*◌, ◌/◌, ◌%◌, ◌<◌, true, ◌||◌, nat_le, nat_lt, List, []}
 use Rattle.std.specs.Prelude.{length, slice_index, slice_index_or, if◌then◌else◌, bit_xor}
 use Rattle.aes.specs.Field.{sbox}
-use Rattle.aes.specs.Schedule.{round_count, schedule}
-use Rattle.aes.specs.declared.lanes.TheConstants.{TO_LOW, TO_HIGH}
+use Rattle.aes.specs.declared.lanes.TheConstants.{TO_LOW, TO_HIGH, FROM_LOW, FROM_HIGH}
 
--- v has 64 lanes, and lane k holds f k
-pub record HasLanes (v : List ℕ) (f : ℕ → ℕ) : Type 0 where
-  pub long : length v ≡ 64
-  pub each : (k : ℕ) → k < 64 → slice_index v k ≡ f k
+-- v has n lanes, and lane k holds f k
+pub record HasLanes (n : ℕ) (v : List ℕ) (f : ℕ → ℕ) : Type 0 where
+  pub long : length v ≡ n
+  pub each : (k : ℕ) → k < n → slice_index v k ≡ f k
 
 -- an index below 16 into a table of sixteen bytes, or one from 128 on, which reads 0
 abbrev pub IsPlace : ℕ → Type 0
@@ -18,17 +17,21 @@ IsPlace j = (nat_le 128 j || nat_lt j 16) ≡ true
 abbrev pub entry : List ℕ → ℕ → ℕ
 entry t j = if nat_le 128 j then 0 else slice_index t j
 
--- byte i of four blocks
+-- byte i of some blocks
 abbrev pub byte_of : (ℕ → List ℕ) → ℕ → ℕ
 byte_of f i = slice_index (f (i / 16)) (i % 16)
 
--- byte i of four copies of the columns ws
+-- byte i of copies of the columns ws
 abbrev pub key_byte : List (List ℕ) → ℕ → ℕ
 key_byte ws i = slice_index (slice_index_or ws (i % 16 / 4) []) (i % 16 % 4)
 
--- the index of the byte that ShiftRows moves to index i, in each of four blocks
+-- the index of the byte that ShiftRows moves to index i, in each block
 abbrev pub row_source : ℕ → ℕ
 row_source i = i / 16 * 16 + (i % 4 + 4 * ((i % 16 / 4 + i % 4) % 4))
+
+-- the index to which ShiftRows moves byte i of a block
+abbrev pub row_target : ℕ → ℕ
+row_target i = i % 4 + 4 * ((i / 4 + 3 * (i % 4)) % 4)
 
 -- the index one row down in the same column; row 0 is below row 3
 abbrev pub row_below : ℕ → ℕ
@@ -42,27 +45,46 @@ row_above i = i / 4 * 4 + (i + 3) % 4
 unfoldable pub in_basis : ℕ → ℕ
 in_basis x = bit_xor (slice_index TO_LOW (x % 16)) (slice_index TO_HIGH (x / 16))
 
--- byte i of round key n, in that basis, plus the constant of the S-box
-abbrev pub ready_byte : List (List ℕ) → ℕ → ℕ → ℕ
-ready_byte ws n i = bit_xor (in_basis (slice_index (slice_index_or ws (4 * n + i / 4) []) (i % 4))) 0x7c
-
--- the keys are the round keys of a cipher in that basis, plus the constant of the S-box
-pub record IsReady (keys : List (List ℕ)) (key : List ℕ) : Type 0 where
-  pub each : (n i : ℕ) → n ≤ round_count key → i < 16
-      → slice_index (slice_index_or keys n []) i ≡ ready_byte (schedule key) n i
+-- the byte with these coordinates in that basis
+unfoldable pub from_basis : ℕ → ℕ
+from_basis y = bit_xor (slice_index FROM_LOW (y % 16)) (slice_index FROM_HIGH (y / 16))
 
 -- the S-box without its constant
 unfoldable pub linear_sbox : ℕ → ℕ
 linear_sbox x = bit_xor (sbox x) 0x63
 
--- v holds the blocks f 0 to f 3
-abbrev pub HoldsBlocks : List ℕ → (ℕ → List ℕ) → Type 0
-HoldsBlocks v f = HasLanes v (byte_of f)
+-- n lanes of v hold the blocks f 0, f 1 ..
+abbrev pub HoldsBlocks : ℕ → List ℕ → (ℕ → List ℕ) → Type 0
+HoldsBlocks n v f = HasLanes n v (byte_of f)
 
--- v holds them in that basis
-abbrev pub HoldsInBasis : List ℕ → (ℕ → List ℕ) → Type 0
-HoldsInBasis v f = HasLanes v (λ i. in_basis (byte_of f i))
+-- n lanes of v hold them in that basis, after ShiftRows
+abbrev pub HoldsShifted : ℕ → List ℕ → (ℕ → List ℕ) → Type 0
+HoldsShifted n v f = HasLanes n v (λ i. in_basis (byte_of f (row_source i)))
 
--- v holds the block b in the basis
-pub record IsInBasis (v b : List ℕ) : Type 0 where
-  pub each : (i : ℕ) → i < 16 → slice_index v i ≡ in_basis (slice_index b i)
+-- byte i of the words from word m on
+abbrev pub byte_from : List (List ℕ) → ℕ → ℕ → ℕ
+byte_from ws m i = slice_index (slice_index_or ws (m + i / 4) []) (i % 4)
+
+-- the first lanes of v hold the words m to m + count - 1 in that basis
+pub record HoldsWords (count : ℕ) (v : List ℕ) (ws : List (List ℕ)) (m : ℕ) : Type 0 where
+  pub each : (i : ℕ) → i < 4 * count → slice_index v i ≡ in_basis (byte_from ws m i)
+
+-- the four words of v are sums of the words of x, each the sum of a word and all words before it
+pub record HasSums (v x : List ℕ) : Type 0 where
+  pub first : (r : ℕ) → r < 4 → slice_index v r ≡ slice_index x r
+  pub second : (r : ℕ) → r < 4 → slice_index v (4 + r) ≡ bit_xor (slice_index x (4 + r)) (slice_index x r)
+  pub third : (r : ℕ) → r < 4 → slice_index v (8 + r)
+      ≡ bit_xor (bit_xor (slice_index x (8 + r)) (slice_index x (4 + r))) (slice_index x r)
+  pub fourth : (r : ℕ) → r < 4 → slice_index v (12 + r)
+      ≡ bit_xor (bit_xor (slice_index x (12 + r)) (slice_index x (8 + r)))
+      (bit_xor (slice_index x (4 + r)) (slice_index x r))
+
+-- from word n on, `count` words are the sums of the words from m on and the word before them, and the first of these sums is
+-- with the bytes t
+pub record Follows (count : ℕ) (ws : List (List ℕ)) (m n : ℕ) (t : ℕ → ℕ) : Type 0 where
+  pub first : (r : ℕ) → r < 4 → byte_from ws n r ≡ bit_xor (byte_from ws m r) (t r)
+  pub rest : (i : ℕ) → 4 + i < 4 * count → byte_from ws n (4 + i) ≡ bit_xor (byte_from ws m (4 + i)) (byte_from ws n i)
+
+-- the bytes of words are bytes
+abbrev pub AreBytes : List (List ℕ) → Type 0
+AreBytes ws = (k r : ℕ) → slice_index (slice_index_or ws k []) r < 256

@@ -8,76 +8,76 @@ use Rattle.aes.proofs.Substitution.{sum_is, has_nibbles, first_is, second_is, u_
 use Rattle.aes.proofs.lanes.substitute.Goals as goal
 
 pub look_up-requires-2 : goal.look_up-requires-2
-look_up-requires-2 c =
-    shown both_at c.sum-both.result c.args.x c.fits-x.1
-    (sum_is c.args.x c.low_nibbles-low.ensures c.high_nibbles-high.ensures c.sum-both.ensures) both_place
+look_up-requires-2 g c =
+    shown both_at _ (g.V.Lanes.lanes c.args.x) c.low_nibbles-low.ensures.bytes
+    (sum_is (g.V.Lanes.lanes c.args.x) c.low_nibbles-low.ensures.nibbles c.high_nibbles-high.ensures c.sum-both.ensures) both_place
 
 pub look_up-requires-3 : goal.look_up-requires-3
-look_up-requires-3 c =
-    let nibbles = has_nibbles c.low_nibbles-low.ensures c.high_nibbles-high.ensures c.sum-both.ensures
+look_up-requires-3 g c =
+    let nibbles = has_nibbles c.low_nibbles-low.ensures.nibbles c.high_nibbles-high.ensures c.sum-both.ensures
     c.look_up-scaled.ensures in
     let first = first_is nibbles c.look_up.ensures c.sum-first.ensures in
-    shown first_at c.sum-first.result c.args.x c.fits-x.1 first first_place
+    shown first_at _ (g.V.Lanes.lanes c.args.x) c.low_nibbles-low.ensures.bytes first first_place
 
 pub look_up-requires-4 : goal.look_up-requires-4
-look_up-requires-4 c =
-    let nibbles = has_nibbles c.low_nibbles-low.ensures c.high_nibbles-high.ensures c.sum-both.ensures
+look_up-requires-4 g c =
+    let nibbles = has_nibbles c.low_nibbles-low.ensures.nibbles c.high_nibbles-high.ensures c.sum-both.ensures
     c.look_up-scaled.ensures in
     let second = second_is nibbles c.look_up-2.ensures c.sum-second.ensures in
-    shown second_at c.sum-second.result c.args.x c.fits-x.1 second second_place
+    shown second_at _ (g.V.Lanes.lanes c.args.x) c.low_nibbles-low.ensures.bytes second second_place
 
 pub look_up-requires-5 : goal.look_up-requires-5
-look_up-requires-5 c =
-    let nibbles = has_nibbles c.low_nibbles-low.ensures c.high_nibbles-high.ensures c.sum-both.ensures
+look_up-requires-5 g c =
+    let nibbles = has_nibbles c.low_nibbles-low.ensures.nibbles c.high_nibbles-high.ensures c.sum-both.ensures
     c.look_up-scaled.ensures in
     let first = first_is nibbles c.look_up.ensures c.sum-first.ensures in
     let u = u_is nibbles first c.look_up-3.ensures c.sum-u.ensures in
-    shown u_at c.sum-u.result c.args.x c.fits-x.1 u u_place
+    shown u_at _ (g.V.Lanes.lanes c.args.x) c.low_nibbles-low.ensures.bytes u u_place
 
 pub look_up-requires-7 : goal.look_up-requires-7
-look_up-requires-7 c =
-    let nibbles = has_nibbles c.low_nibbles-low.ensures c.high_nibbles-high.ensures c.sum-both.ensures
+look_up-requires-7 g c =
+    let nibbles = has_nibbles c.low_nibbles-low.ensures.nibbles c.high_nibbles-high.ensures c.sum-both.ensures
     c.look_up-scaled.ensures in
     let first = first_is nibbles c.look_up.ensures c.sum-first.ensures in
     let u = u_is nibbles first c.look_up-3.ensures c.sum-u.ensures in
-    shown u_at c.sum-u.result c.args.x c.fits-x.1 u u_place
+    shown u_at _ (g.V.Lanes.lanes c.args.x) c.low_nibbles-low.ensures.bytes u u_place
 
 pub look_up-requires-9 : goal.look_up-requires-9
-look_up-requires-9 c =
-    let nibbles = has_nibbles c.low_nibbles-low.ensures c.high_nibbles-high.ensures c.sum-both.ensures
+look_up-requires-9 g c =
+    let nibbles = has_nibbles c.low_nibbles-low.ensures.nibbles c.high_nibbles-high.ensures c.sum-both.ensures
     c.look_up-scaled.ensures in
     let first = first_is nibbles c.look_up.ensures c.sum-first.ensures in
     let u = u_is nibbles first c.look_up-3.ensures c.sum-u.ensures in
-    shown u_at c.sum-u.result c.args.x c.fits-x.1 u u_place
+    shown u_at _ (g.V.Lanes.lanes c.args.x) c.low_nibbles-low.ensures.bytes u u_place
 
 pub look_up-requires-6 : goal.look_up-requires-6
-look_up-requires-6 c =
-    let nibbles = has_nibbles c.low_nibbles-low.ensures c.high_nibbles-high.ensures c.sum-both.ensures
+look_up-requires-6 g c =
+    let nibbles = has_nibbles c.low_nibbles-low.ensures.nibbles c.high_nibbles-high.ensures c.sum-both.ensures
     c.look_up-scaled.ensures in
     let second = second_is nibbles c.look_up-2.ensures c.sum-second.ensures in
     let t = t_is nibbles second c.look_up-4.ensures c.sum-t.ensures in
-    shown t_at c.sum-t.result c.args.x c.fits-x.1 t t_place
+    shown t_at _ (g.V.Lanes.lanes c.args.x) c.low_nibbles-low.ensures.bytes t t_place
 
 pub look_up-requires-8 : goal.look_up-requires-8
-look_up-requires-8 c =
-    let nibbles = has_nibbles c.low_nibbles-low.ensures c.high_nibbles-high.ensures c.sum-both.ensures
+look_up-requires-8 g c =
+    let nibbles = has_nibbles c.low_nibbles-low.ensures.nibbles c.high_nibbles-high.ensures c.sum-both.ensures
     c.look_up-scaled.ensures in
     let second = second_is nibbles c.look_up-2.ensures c.sum-second.ensures in
     let t = t_is nibbles second c.look_up-4.ensures c.sum-t.ensures in
-    shown t_at c.sum-t.result c.args.x c.fits-x.1 t t_place
+    shown t_at _ (g.V.Lanes.lanes c.args.x) c.low_nibbles-low.ensures.bytes t t_place
 
 pub look_up-requires-10 : goal.look_up-requires-10
-look_up-requires-10 c =
-    let nibbles = has_nibbles c.low_nibbles-low.ensures c.high_nibbles-high.ensures c.sum-both.ensures
+look_up-requires-10 g c =
+    let nibbles = has_nibbles c.low_nibbles-low.ensures.nibbles c.high_nibbles-high.ensures c.sum-both.ensures
     c.look_up-scaled.ensures in
     let second = second_is nibbles c.look_up-2.ensures c.sum-second.ensures in
     let t = t_is nibbles second c.look_up-4.ensures c.sum-t.ensures in
-    shown t_at c.sum-t.result c.args.x c.fits-x.1 t t_place
+    shown t_at _ (g.V.Lanes.lanes c.args.x) c.low_nibbles-low.ensures.bytes t t_place
 
 pub returns : goal.returns
-returns c =
-    let x = c.args.x in
-    let nibbles = has_nibbles c.low_nibbles-low.ensures c.high_nibbles-high.ensures c.sum-both.ensures
+returns g c =
+    let x = g.V.Lanes.lanes c.args.x in
+    let nibbles = has_nibbles c.low_nibbles-low.ensures.nibbles c.high_nibbles-high.ensures c.sum-both.ensures
     c.look_up-scaled.ensures in
     let first = first_is nibbles c.look_up.ensures c.sum-first.ensures in
     let second = second_is nibbles c.look_up-2.ensures c.sum-second.ensures in
@@ -90,7 +90,7 @@ returns c =
     let made2 = parts_are x TWICE_BY_FIRST TWICE_BY_SECOND u t c.look_up-9.ensures c.look_up-10.ensures
     c.sum-3.ensures in
     λ s small held. (
-      plain_lanes c.sum.result x s made0 small held,
-      once_lanes c.sum-2.result x s made1 small held,
-      twice_lanes c.sum-3.result x s made2 small held,
+      plain_lanes _ x s made0 small held,
+      once_lanes _ x s made1 small held,
+      twice_lanes _ x s made2 small held,
     )

@@ -7,3 +7,9 @@ invariant-singles g l = AdvancesFront g.C.Count.up l.key l.fn.self l.self l.fn.b
 
 abbrev pub decreases-singles : goal.decreases-singles
 decreases-singles g l = length l.bytes - l.done
+
+abbrev pub invariant-pairs : goal.invariant-pairs
+invariant-pairs g l = AdvancesFront g.C.Count.up l.key l.fn.self l.self l.fn.bytes l.bytes l.done
+
+abbrev pub decreases-pairs : goal.decreases-pairs
+decreases-pairs g l = length l.bytes - l.done

@@ -23,9 +23,9 @@ returns c = λ f blocks held.
     let out = c.store.ensures again made both in (
       λ q h.
           let at : q % 8 ≡ q = omega (arith, h) in
-          block_held c.store.result.0 again q out.0 h (made q).length_is ∙ ap (λ (i : ℕ). cipher key (f i)) at,
+          block_held 4 c.store.result.0 again q out.0 h (made q).length_is ∙ ap (λ (i : ℕ). cipher key (f i)) at,
       λ q h.
           let at : (4 + q) % 8 ≡ 4 + q = omega (arith, h) in
-          block_held c.store.result.1 (λ q. again (4 + q)) q out.1 h (made (4 + q)).length_is
+          block_held 4 c.store.result.1 (λ q. again (4 + q)) q out.1 h (made (4 + q)).length_is
           ∙ ap (λ (i : ℕ). cipher key (f i)) at,
     )

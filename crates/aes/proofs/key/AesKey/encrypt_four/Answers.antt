@@ -1,5 +1,19 @@
-use Rattle.std.proofs.Common.{rules}
+use Rattle.std.proofs.Common.{◌≡◌, ℕ, ◌%◌, ap, ◌∙◌, arith}
+use Rattle.octets.specs.Bytes.{IsBlock, block_at}
+use Rattle.aes.specs.Cipher.{cipher}
+use Rattle.aes.proofs.Permutation.{cipher_block}
+use Rattle.aes.proofs.FourRounds.{holds_self, block_at_is, block_held}
 use Rattle.aes.proofs.key.AesKey.encrypt_four.Goals as goal
 
 pub returns : goal.returns
-returns c = search rules
+returns c = λ q h.
+    let key = c.args.self.now in
+    let m = c.args.blocks.now in
+    let same : q % 4 ≡ q = omega (arith, h) in
+    let block : (q : ℕ) → IsBlock (block_at m (q % 4)) = λ q.
+    block_at_is 4 (q % 4) m c.told-blocks c.fits-blocks (omega arith) in
+    block_held 4 c.encrypt_lanes.result (λ q. cipher key (block_at m (q % 4))) q
+    (c.encrypt_lanes.ensures (λ q. block_at m (q % 4)) block
+    (holds_self 4 (λ q. q % 4) m c.told-blocks (λ q l. omega (arith, l)))) h
+    (cipher_block key (block_at m (q % 4)) c.is_key.ensures (block q)).length_is
+    ∙ ap (λ (i : ℕ). cipher key (block_at m i)) same

@@ -23,8 +23,8 @@ pub loop-done-preserved : goal.loop-done-preserved
 loop-done-preserved c = λ f blocks held.
     let key = c.args.self.now in
     let ws = schedule key in
-    let long = kept_length c.self.inside.words c.self.inside.size key c.self.invariant c.self.view_is in
-    let k = is_key c.self.inside.words c.self.inside.size key c.self.invariant c.self.view_is in
+    let long = kept_length c.self.inside.keys c.self.inside.size key c.self.invariant c.self.view_is in
+    let k = is_key c.self.inside.keys c.self.inside.size key c.self.invariant c.self.view_is in
     let n = c.loop-done.done in
     let words = words_are key (4 * (round_count key + 1)) k.bytes in
     let vs = drop (4 * (n + 1)) ws in
@@ -43,8 +43,8 @@ pub returns : goal.returns
 returns c = λ f blocks held.
     let key = c.args.self.now in
     let ws = schedule key in
-    let long = kept_length c.self.inside.words c.self.inside.size key c.self.invariant c.self.view_is in
-    let k = is_key c.self.inside.words c.self.inside.size key c.self.invariant c.self.view_is in
+    let long = kept_length c.self.inside.keys c.self.inside.size key c.self.invariant c.self.view_is in
+    let k = is_key c.self.inside.keys c.self.inside.size key c.self.invariant c.self.view_is in
     let n = c.loop-done.done in
     let last = round_count key in
     let count : c.self.inside.size + 6 ≡ last = omega arith in

@@ -2,20 +2,19 @@ use Rattle.std.proofs.Common.{◌≡◌, ℕ, ◌+◌, ◌*◌, ◌<◌, get_or,
 use Rattle.aes.specs.Cipher.{mix_column}
 use Rattle.aes.specs.Code.Columns.{column_of}
 use Rattle.aes.specs.Schedule.{word}
-use Rattle.aes.proofs.Expanded.{has_schedule, has_word, is_key, kept_length}
+use Rattle.aes.proofs.Expanded.{is_key, kept_length}
 use Rattle.aes.proofs.key.AesKey.inverse.Goals as goal
 
 pub returns : goal.returns
 returns c =
     let key = c.args.self.now in
-    let ws = c.self.inside.words in
+    let ws = c.self.inside.keys in
     let nk = c.self.inside.size in
     let out = c.new.result.words in
     let long = kept_length ws nk key c.self.invariant c.self.view_is in
-    let has = has_schedule ws nk key c.self.invariant c.self.view_is in
     let size : c.new.result.size ≡ nk = c.new.ensures.size in
-    let is : (k : ℕ) → k < 4 * (nk + 7) → column_of (get_or ws k 0) ≡ word key k =
-    λ k l. has_word ws key k c.self.told has (omega arith) in
+    let is : (k : ℕ) → k < 4 * (nk + 7) → column_of (get_or c.words.result k 0) ≡ word key k =
+    λ k l. c.words.ensures k (omega arith) in
     let made : (k : ℕ) → get_or out k 0 ≡ get_or c.unmix_words.result k 0 =
     λ k. ap (λ l. get_or l k 0) c.new.ensures.words in
     record {

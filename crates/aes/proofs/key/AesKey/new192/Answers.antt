@@ -5,8 +5,9 @@ use Rattle.aes.proofs.key.AesKey.new192.Goals as goal
 pub invariant_of-result : goal.invariant_of-result
 invariant_of-result c =
     expanded c.expand.result c.bytes.result.now 6 (rw c.bytes.ensures.value c.bytes.ensures.are_bytes.bytes)
-    (search rules) (inr (inl refl)) (search rules) c.expand.ensures.table c.expand.ensures.words
+    (inr (inl refl)) (search rules) c.expand.ensures
 
 pub returns : goal.returns
-returns c = spelled c.expand.result c.bytes.result.now 6 (search rules) (inr (inl refl)) (search rules)
-    c.expand.ensures.table ∙ c.bytes.ensures.value
+returns c =
+    spelled c.expand.result c.bytes.result.now 6 (rw c.bytes.ensures.value c.bytes.ensures.are_bytes.bytes) (inr (inl refl))
+    (search rules) c.expand.ensures ∙ c.bytes.ensures.value
