@@ -1,27 +1,21 @@
 -- Columns as words: their sums, rotations and bytes.
 use Rattle.std.proofs.Common.{◌≡◌, ℕ, ◌+◌, ◌*◌, ◌/◌, ◌%◌, ◌^◌, ◌<◌, ◌≤◌, true, ◌==◌, ◌&&◌, ltb, ltb-true}
 use Rattle.std.proofs.Common.{List, [], ◌∷◌, ◌++◌, map, get_or, length, zero, suc, refl, sym, ap, ap₂, ◌∙◌}
-use Rattle.std.proofs.Common.{arith, bit_or, bit_xor, w32, lit<}
+use Rattle.std.proofs.Common.{arith, bit_or, bit_xor, w32}
 use Rattle.std.specs.Int.{bytes_low_first, rotate_left, from_le_bytes}
 use Rattle.std.proofs.lemmas.Nat.{xor_shr, xor_mod, or_shifted}
 use Rattle.std.proofs.lemmas.Bool.{and_parts, eqb-true}
 use Rattle.std.proofs.lemmas.List.{get_or-map}
-use Rattle.octets.specs.Bytes.{IsBlock}
 use Rattle.aes.specs.Field.{times, sbox}
 use Rattle.aes.specs.Schedule.{xor_word}
-use Rattle.aes.specs.Cipher.{dot, sub_bytes, shift_rows, mix_column, mix_columns, add_round_key}
+use Rattle.aes.specs.Cipher.{sub_bytes, shift_rows, mix_column, mix_columns, add_round_key}
 use Rattle.aes.specs.Code.Columns.{column_of, columns_of, state_of}
 use Rattle.aes.specs.declared.sbox.TheConstants.{SBOX}
 use Rattle.aes.specs.declared.round_tables.TheConstants.{TABLE, TABLE_ROW1, TABLE_ROW2, TABLE_ROW3}
-use Rattle.aes.specs.declared.round_tables.TheConstants.{INVERSE_TABLE, INVERSE_ROW1, INVERSE_ROW2}
-use Rattle.aes.specs.declared.round_tables.TheConstants.{INVERSE_ROW3}
-use Rattle.aes.proofs.FieldFacts.{times_comm}
 use Rattle.aes.proofs.Tested.{all_below, all_below_at}
-use Rattle.aes.proofs.Multiples.{single_is, double, double_is, triple, triple_by, product_of, times_is}
+use Rattle.aes.proofs.Multiples.{single_is, double, double_is, triple, triple_by}
 use Rattle.aes.proofs.Tables.{sbox_at}
 use Rattle.aes.proofs.Rows.{four, dot_is}
-use Rattle.aes.proofs.Sums.{times_xor, xor_exchange}
-use Rattle.aes.proofs.Linear.{unmix_written}
 use Rattle.aes.proofs.Steps.{sbox_small, times_small, quad}
 
 -- byte k of an XOR is the XOR of the bytes
@@ -268,174 +262,6 @@ key_columns ws n (suc (suc zero)) h l = sym (get_or-map column_of ws (4 * n + 2)
 key_columns ws n (suc (suc (suc zero))) h l = sym (get_or-map column_of ws (4 * n + 3) 0 [] (omega arith))
 key_columns ws n (suc (suc (suc (suc c)))) h l = absurd (omega arith)
 
--- ---- the inverse cipher
-abbrev unmixed_entry : ℕ → ℕ
-unmixed_entry y = from_le_bytes w32
-    (product_of 4 y 14 ∷ product_of 4 y 9 ∷ product_of 4 y 13 ∷ product_of 4 y 11 ∷ [])
-
--- the entry of the inverse table at the S-box value of y is the word of y, tested at each byte y
-inverse_computed : all_below (λ y. get_or INVERSE_TABLE (get_or SBOX y 0) 0 == unmixed_entry y) 256 ≡ true
-unfolding product_of
-inverse_computed = refl
-
--- the product with a number below 16 is `product_of`
-times_by : (k y : ℕ) → y < 256 → k < 16 → times k y ≡ product_of 4 y k
-times_by k y h l = times_comm k y ∙ times_is 4 y k h (omega (arith, l)) l
-
--- an entry of the inverse table has the column 14y, 9y, 13y, 11y of the byte y whose S-box value is its index
-pub inverse_at : (x y : ℕ) → y < 256 → sbox y ≡ x
-    → column_of (get_or INVERSE_TABLE x 0) ≡ times 14 y ∷ times 9 y ∷ times 13 y ∷ times 11 y ∷ []
-inverse_at x y h e =
-    column_back (times 14 y) (times 9 y) (times 13 y) (times 11 y) (get_or INVERSE_TABLE x 0)
-    (times_small 14 y) (times_small 9 y) (times_small 13 y) (times_small 11 y)
-    (ap (λ i. get_or INVERSE_TABLE i 0) (sym (sbox_at y h ∙ e))
-    ∙ eqb-true (get_or INVERSE_TABLE (get_or SBOX y 0) 0) (unmixed_entry y)
-    (all_below_at (λ y. get_or INVERSE_TABLE (get_or SBOX y 0) 0 == unmixed_entry y) 256 y inverse_computed
-    h)
-    ∙ ap (from_le_bytes w32)
-    (four (sym (times_by 14 y h (lit< tt))) (sym (times_by 9 y h (lit< tt))) (sym (times_by 13 y h (lit< tt)))
-    (sym (times_by 11 y h (lit< tt)))))
-
--- the inverse table of row 1 is the inverse table moved down by one row, tested at each entry
-inverse_row1 : IsMoved INVERSE_ROW1 INVERSE_TABLE 8
-inverse_row1 = refl
-
--- the inverse table of row 2 is the inverse table moved down by two rows, tested at each entry
-inverse_row2 : IsMoved INVERSE_ROW2 INVERSE_TABLE 16
-inverse_row2 = refl
-
--- the inverse table of row 3 is the inverse table moved down by three rows, tested at each entry
-inverse_row3 : IsMoved INVERSE_ROW3 INVERSE_TABLE 24
-inverse_row3 = refl
-
--- an entry of the inverse table of row 1 has the column 11y, 14y, 9y, 13y
-pub inverse_row1_at : (x y : ℕ) → x < 256 → y < 256 → sbox y ≡ x
-    → column_of (get_or INVERSE_ROW1 x 0) ≡ times 11 y ∷ times 14 y ∷ times 9 y ∷ times 13 y ∷ []
-inverse_row1_at x y l h e =
-    moved_once INVERSE_ROW1 INVERSE_TABLE x (times 14 y) (times 9 y) (times 13 y) (times 11 y) inverse_row1 l
-    (inverse_at x y h e)
-
--- an entry of the inverse table of row 2 has the column 13y, 11y, 14y, 9y
-pub inverse_row2_at : (x y : ℕ) → x < 256 → y < 256 → sbox y ≡ x
-    → column_of (get_or INVERSE_ROW2 x 0) ≡ times 13 y ∷ times 11 y ∷ times 14 y ∷ times 9 y ∷ []
-inverse_row2_at x y l h e =
-    moved_twice INVERSE_ROW2 INVERSE_TABLE x (times 14 y) (times 9 y) (times 13 y) (times 11 y) inverse_row2
-    l (inverse_at x y h e)
-
--- an entry of the inverse table of row 3 has the column 9y, 13y, 11y, 14y
-pub inverse_row3_at : (x y : ℕ) → x < 256 → y < 256 → sbox y ≡ x
-    → column_of (get_or INVERSE_ROW3 x 0) ≡ times 9 y ∷ times 13 y ∷ times 11 y ∷ times 14 y ∷ []
-inverse_row3_at x y l h e =
-    moved_thrice INVERSE_ROW3 INVERSE_TABLE x (times 14 y) (times 9 y) (times 13 y) (times 11 y) inverse_row3
-    l (inverse_at x y h e)
-
--- MixColumns takes the XOR of four entries of the inverse tables back to the column of their bytes
-pub unmixed_is : (a b c d s t u v : ℕ) → a < 256 → b < 256 → c < 256 → d < 256
-    → column_of s ≡ times 14 a ∷ times 9 a ∷ times 13 a ∷ times 11 a ∷ []
-    → column_of t ≡ times 11 b ∷ times 14 b ∷ times 9 b ∷ times 13 b ∷ []
-    → column_of u ≡ times 13 c ∷ times 11 c ∷ times 14 c ∷ times 9 c ∷ []
-    → column_of v ≡ times 9 d ∷ times 13 d ∷ times 11 d ∷ times 14 d ∷ []
-    → mix_column (column_of (bit_xor s (bit_xor t (bit_xor u v)))) ≡ a ∷ b ∷ c ∷ d ∷ []
-unfolding xor_word
-unmixed_is a b c d s t u v ha hb hc hd es et eu ev =
-    ap mix_column (
-    column_xor s (bit_xor t (bit_xor u v))
-    ∙ ap₂ xor_word es (column_xor t (bit_xor u v) ∙ ap₂ xor_word et (column_xor u v ∙ ap₂ xor_word eu ev))
-    ∙ four
-    (dot_is 14 11 13 9 a b c d (times 14 a) (times 11 b) (times 13 c) (times 9 d) refl refl refl refl)
-    (dot_is 9 14 11 13 a b c d (times 9 a) (times 14 b) (times 11 c) (times 13 d) refl refl refl refl)
-    (dot_is 13 9 14 11 a b c d (times 13 a) (times 9 b) (times 14 c) (times 11 d) refl refl refl refl)
-    (dot_is 11 13 9 14 a b c d (times 11 a) (times 13 b) (times 9 c) (times 14 d) refl refl refl refl))
-    ∙ unmix_written a b c d ha hb hc hd
-
--- a row of MixColumns takes the sum of two columns to the sum of its values
-row_xor : (k l m n a b c d p q r s : ℕ)
-    → dot (k ∷ l ∷ m ∷ n ∷ []) (bit_xor a p ∷ bit_xor b q ∷ bit_xor c r ∷ bit_xor d s ∷ [])
-    ≡ bit_xor (dot (k ∷ l ∷ m ∷ n ∷ []) (a ∷ b ∷ c ∷ d ∷ [])) (dot (k ∷ l ∷ m ∷ n ∷ []) (p ∷ q ∷ r ∷ s ∷ []))
-row_xor k l m n a b c d p q r s =
-    let last : bit_xor (times n (bit_xor d s)) 0 ≡ bit_xor (bit_xor (times n d) 0) (bit_xor (times n s) 0) =
-    ap (λ (x : ℕ). bit_xor x 0) (times_xor n d s) ∙ xor_exchange (times n d) (times n s) 0 0 in
-    ap₂ bit_xor (times_xor k a p) (
-    ap₂ bit_xor (times_xor l b q)
-    (ap₂ bit_xor (times_xor m c r) last
-    ∙ xor_exchange (times m c) (times m r) (bit_xor (times n d) 0) (bit_xor (times n s) 0))
-    ∙ xor_exchange (times l b) (times l q) (bit_xor (times m c) (bit_xor (times n d) 0))
-    (bit_xor (times m r) (bit_xor (times n s) 0)))
-    ∙ xor_exchange (times k a) (times k p)
-    (bit_xor (times l b) (bit_xor (times m c) (bit_xor (times n d) 0)))
-    (bit_xor (times l q) (bit_xor (times m r) (bit_xor (times n s) 0)))
-
--- MixColumns takes the sum of two columns to the sum of their images
-pub mix_xor : (v w : ℕ) → mix_column (column_of (bit_xor v w))
-    ≡ xor_word (mix_column (column_of v)) (mix_column (column_of w))
-unfolding column_of mix_column xor_word
-mix_xor v w =
-    let a : ℕ → ℕ = λ i. get_or (column_of v) i 0 in
-    let p : ℕ → ℕ = λ i. get_or (column_of w) i 0 in
-    ap mix_column (column_xor v w)
-    ∙ four (row_xor 2 3 1 1 (a 0) (a 1) (a 2) (a 3) (p 0) (p 1) (p 2) (p 3))
-    (row_xor 1 2 3 1 (a 0) (a 1) (a 2) (a 3) (p 0) (p 1) (p 2) (p 3))
-    (row_xor 1 1 2 3 (a 0) (a 1) (a 2) (a 3) (p 0) (p 1) (p 2) (p 3))
-    (row_xor 3 1 1 2 (a 0) (a 1) (a 2) (a 3) (p 0) (p 1) (p 2) (p 3))
-
--- a column whose rows come from four words, one row from each
-abbrev pub rows_of : ℕ → ℕ → ℕ → ℕ → List ℕ
-rows_of a b c d = get_or (column_of a) 0 0 ∷ get_or (column_of b) 1 0 ∷ get_or (column_of c) 2 0
-    ∷ get_or (column_of d) 3 0 ∷ []
-
--- the S-box values of four bytes of a block
-abbrev pub sub_of : List ℕ → ℕ → List ℕ
-sub_of s i = sbox (get_or s i 0) ∷ sbox (get_or s (i + 1) 0) ∷ sbox (get_or s (i + 2) 0)
-    ∷ sbox (get_or s (i + 3) 0) ∷ []
-
--- if SubBytes and ShiftRows take s to a state of four columns, the S-box values of each column of s are rows of these columns
-pub before_rows : (a b c d : ℕ) (s : List ℕ) → shift_rows (sub_bytes s) ≡ state_of (a ∷ b ∷ c ∷ d ∷ [])
-    → (sub_of s 0 ≡ rows_of a d c b) × (sub_of s 4 ≡ rows_of b a d c) × (sub_of s 8 ≡ rows_of c b a d)
-    × (sub_of s 12 ≡ rows_of d c b a)
-unfolding column_of sub_bytes shift_rows
-before_rows a b c d s e = (
-  four (ap (λ l. get_or l 0 0) e) (ap (λ l. get_or l 13 0) e) (ap (λ l. get_or l 10 0) e)
-      (ap (λ l. get_or l 7 0) e),
-  four (ap (λ l. get_or l 4 0) e) (ap (λ l. get_or l 1 0) e) (ap (λ l. get_or l 14 0) e)
-      (ap (λ l. get_or l 11 0) e),
-  four (ap (λ l. get_or l 8 0) e) (ap (λ l. get_or l 5 0) e) (ap (λ l. get_or l 2 0) e)
-      (ap (λ l. get_or l 15 0) e),
-  four (ap (λ l. get_or l 12 0) e) (ap (λ l. get_or l 9 0) e) (ap (λ l. get_or l 6 0) e)
-      (ap (λ l. get_or l 3 0) e),
-)
-
--- four neighbouring bytes of a block
-abbrev pub quad_at : List ℕ → ℕ → List ℕ
-quad_at s i = get_or s i 0 ∷ get_or s (i + 1) 0 ∷ get_or s (i + 2) 0 ∷ get_or s (i + 3) 0 ∷ []
-
--- if MixColumns takes each column to a column of s plus the mixed key, it takes the state to s plus the mixed round key
-pub inverse_state : (k l m n p q r t : ℕ) (s : List ℕ)
-    → mix_column (column_of p) ≡ xor_word (quad_at s 0) (mix_column (column_of k))
-    → mix_column (column_of q) ≡ xor_word (quad_at s 4) (mix_column (column_of l))
-    → mix_column (column_of r) ≡ xor_word (quad_at s 8) (mix_column (column_of m))
-    → mix_column (column_of t) ≡ xor_word (quad_at s 12) (mix_column (column_of n))
-    → mix_columns (state_of (p ∷ q ∷ r ∷ t ∷ []))
-    ≡ add_round_key (map mix_column (columns_of (k ∷ l ∷ m ∷ n ∷ []))) 0 s
-unfolding column_of mix_column mix_columns xor_word add_round_key
-inverse_state k l m n p q r t s e f g h = joined e f g h
-
--- if the S-box takes each column to rows of four columns, SubBytes and ShiftRows take the state to these columns
-pub unsubbed_state : (a b c d p q r s : ℕ) → map sbox (column_of p) ≡ rows_of a d c b
-    → map sbox (column_of q) ≡ rows_of b a d c
-    → map sbox (column_of r) ≡ rows_of c b a d → map sbox (column_of s) ≡ rows_of d c b a
-    → shift_rows (sub_bytes (state_of (p ∷ q ∷ r ∷ s ∷ []))) ≡ state_of (a ∷ b ∷ c ∷ d ∷ [])
-unfolding column_of sub_bytes shift_rows
-unsubbed_state a b c d p q r s e f g h =
-    joined
-    (four (ap (λ l. get_or l 0 0) e) (ap (λ l. get_or l 1 0) f) (ap (λ l. get_or l 2 0) g)
-    (ap (λ l. get_or l 3 0) h))
-    (four (ap (λ l. get_or l 0 0) f) (ap (λ l. get_or l 1 0) g) (ap (λ l. get_or l 2 0) h)
-    (ap (λ l. get_or l 3 0) e))
-    (four (ap (λ l. get_or l 0 0) g) (ap (λ l. get_or l 1 0) h) (ap (λ l. get_or l 2 0) e)
-    (ap (λ l. get_or l 3 0) f))
-    (four (ap (λ l. get_or l 0 0) h) (ap (λ l. get_or l 1 0) e) (ap (λ l. get_or l 2 0) f)
-    (ap (λ l. get_or l 3 0) g))
-
 -- the S-box values of the four rows of a column are the S-box at each byte of the column
 pub sub_column : (w : ℕ)
     → sbox (get_or (column_of w) 0 0) ∷ sbox (get_or (column_of w) 1 0) ∷ sbox (get_or (column_of w) 2 0)
@@ -447,17 +273,3 @@ sub_column w = refl
 pub state_long : (ws : List ℕ) → length ws ≡ 4 → length (state_of ws) ≡ 16
 unfolding column_of
 state_long ws h = ap (λ l. length (state_of l)) (sym (quad ws h))
-
--- every byte of a state is below 256
-state_small : (ws : List ℕ) (i : ℕ) → get_or (state_of ws) i 0 < 256
-unfolding column_of
-state_small [] i = omega arith
-state_small (w ∷ ws) zero = omega arith
-state_small (w ∷ ws) (suc zero) = omega arith
-state_small (w ∷ ws) (suc (suc zero)) = omega arith
-state_small (w ∷ ws) (suc (suc (suc zero))) = omega arith
-state_small (w ∷ ws) (suc (suc (suc (suc i)))) = state_small ws i
-
--- the state of four words is a block
-pub state_block : (ws : List ℕ) → length ws ≡ 4 → IsBlock (state_of ws)
-state_block ws h = record { length_is = state_long ws h; bytes = λ i. state_small ws i }

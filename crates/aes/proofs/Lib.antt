@@ -12,6 +12,8 @@ mod Linear
 pub mod Steps
 mod ColumnWords
 mod InverseRounds
+mod InverseLanes
+mod InverseBytes
 mod FourBlocks
 mod Substitution
 mod FourRounds

@@ -4,6 +4,7 @@ use Rattle.std.specs.Int.Bits.{xor_zero_r, xor_zero_l, xor_self}
 use Rattle.octets.specs.Polynomial.{product, residue}
 use Rattle.aes.specs.Field.{times}
 use Rattle.aes.specs.Cipher.{dot, matrix, mix_column}
+use Rattle.aes.specs.Code.InverseSteps.{inverse_matrix, unmix_column}
 use Rattle.aes.proofs.Sums.{times_xor, times_zero, zero_times, xor_times, times_assoc, xor_exchange}
 use Rattle.aes.proofs.Multiples.{single_is}
 use Rattle.aes.proofs.Rows.{four}
@@ -44,17 +45,6 @@ dot_map (x ∷ u) (w ∷ ws) v =
     ap₂ bit_xor (dot_times x w v) (dot_map u ws v) ∙ sym (dot_add (map (times x) w) (combined u ws) v)
 
 -- ---- the inverse matrix
-abbrev pub inverse_matrix : List (List ℕ)
-inverse_matrix =
-    (14 ∷ 11 ∷ 13 ∷ 9 ∷ []) ∷
-    (9 ∷ 14 ∷ 11 ∷ 13 ∷ []) ∷
-    (13 ∷ 9 ∷ 14 ∷ 11 ∷ []) ∷
-    (11 ∷ 13 ∷ 9 ∷ 14 ∷ []) ∷ []
-
--- the product of the inverse matrix and a column
-pub unmix_column : List ℕ → List ℕ
-unmix_column v = map (λ u. dot u v) inverse_matrix
-
 -- the identity matrix
 abbrev identity : List (List ℕ)
 identity = (1 ∷ 0 ∷ 0 ∷ 0 ∷ []) ∷ (0 ∷ 1 ∷ 0 ∷ 0 ∷ []) ∷ (0 ∷ 0 ∷ 1 ∷ 0 ∷ []) ∷ (0 ∷ 0 ∷ 0 ∷ 1 ∷ []) ∷ []
@@ -137,9 +127,3 @@ pub unmix_column_whole : (v : List ℕ)
     ∷ get_or (unmix_column v) 3 0 ∷ [] ≡ unmix_column v
 unfolding unmix_column
 unmix_column_whole v = refl
-
--- MixColumns undoes the product with the inverse matrix, written out
-pub unmix_written : (a b c d : ℕ) → a < 256 → b < 256 → c < 256 → d < 256
-    → mix_column (map (λ u. dot u (a ∷ b ∷ c ∷ d ∷ [])) inverse_matrix) ≡ a ∷ b ∷ c ∷ d ∷ []
-unmix_written a b c d ha hb hc hd =
-    ap mix_column (sym (unmix_column_is (a ∷ b ∷ c ∷ d ∷ []))) ∙ mix_unmix a b c d ha hb hc hd

@@ -17,7 +17,8 @@ use Rattle.octets.specs.Bytes.{IsBlock}
 use Rattle.aes.specs.Cipher.{sub_bytes, shift_rows, mix_columns, add_round_key, rounds, cipher, IsKey}
 use Rattle.aes.specs.Cipher.{IsPermutation}
 use Rattle.aes.proofs.Steps.{AreWords, sbox_small, sub_block, unsub, unsub_block, sub_unsub, unsub_sub}
-use Rattle.aes.proofs.Steps.{shift_block, unshift, unshift_block, shift_unshift, unshift_shift, unmix}
+use Rattle.aes.specs.Code.InverseSteps.{inverse_mix_columns}
+use Rattle.aes.proofs.Steps.{shift_block, unshift, unshift_block, shift_unshift, unshift_shift}
 use Rattle.aes.proofs.Steps.{mix_block, unmix_block, mix_unmix_block, unmix_mix_block, add_twice, add_block}
 
 -- ---- the words of a schedule consist of bytes
@@ -162,12 +163,12 @@ rounds_same ws (suc n) b d hw hb hd e =
     let mixed = same_before_add ws (suc n) (mix_columns s2) (mix_columns t2) (mix_block s2).length_is
     (mix_block t2).length_is e in
     rounds_same ws n b d hw hb hd
-    (same_before_shift s t sb tb (sym (unmix_mix_block s2 sb2) ∙ ap unmix mixed ∙ unmix_mix_block t2 tb2))
+    (same_before_shift s t sb tb (sym (unmix_mix_block s2 sb2) ∙ ap inverse_mix_columns mixed ∙ unmix_mix_block t2 tb2))
 
 -- the block that n rounds take to c
 unrounds : List (List ℕ) → ℕ → List ℕ → List ℕ
 unrounds ws zero c = add_round_key ws 0 c
-unrounds ws (suc n) c = unrounds ws n (unsub (unshift (unmix (add_round_key ws (suc n) c))))
+unrounds ws (suc n) c = unrounds ws n (unsub (unshift (inverse_mix_columns (add_round_key ws (suc n) c))))
 
 -- `unrounds` gives a block
 unrounds_block : (ws : List (List ℕ)) (n : ℕ) (c : List ℕ) → AreWords ws → IsBlock c
@@ -175,7 +176,7 @@ unrounds_block : (ws : List (List ℕ)) (n : ℕ) (c : List ℕ) → AreWords ws
 unfolding unrounds
 unrounds_block ws zero c hw h = add_block ws 0 c hw h
 unrounds_block ws (suc n) c hw h =
-    let m : List ℕ = unmix (add_round_key ws (suc n) c) in
+    let m : List ℕ = inverse_mix_columns (add_round_key ws (suc n) c) in
     unrounds_block ws n (unsub (unshift m)) hw
     (unsub_block (unshift m) (unshift_block m (unmix_block (add_round_key ws (suc n) c))))
 
@@ -187,7 +188,7 @@ rounds_unrounds ws zero c hw h = add_twice ws 0 c h.length_is
 rounds_unrounds ws (suc n) c hw h =
     let a : List ℕ = add_round_key ws (suc n) c in
     let ab : IsBlock a = add_block ws (suc n) c hw h in
-    let m : List ℕ = unmix a in
+    let m : List ℕ = inverse_mix_columns a in
     let mb : IsBlock m = unmix_block a in
     let u : List ℕ = unshift m in
     let ub : IsBlock u = unshift_block m mb in

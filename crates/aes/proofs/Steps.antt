@@ -11,7 +11,9 @@ use Rattle.octets.specs.Bits.{bits}
 use Rattle.octets.specs.Polynomial.{product, residue}
 use Rattle.octets.proofs.Residue.{length_residue}
 use Rattle.octets.proofs.BitFacts.{number_lt}
-use Rattle.aes.specs.declared.sbox.TheConstants.{SBOX, INVERSE_SBOX}
+use Rattle.aes.specs.declared.sbox.TheConstants.{SBOX}
+use Rattle.aes.specs.declared.inverse_lanes.TheConstants.{PLAIN_BY_FIRST, PLAIN_BY_SECOND}
+use Rattle.aes.specs.Code.InverseLanes.{by_inverse, u_at, t_at, matrix_undone, affine_undone}
 use Rattle.aes.specs.Field.{modulus, times, sbox}
 use Rattle.octets.specs.Bytes.{IsBlock}
 use Rattle.aes.specs.Cipher.{at, grid, dot, matrix, column, mix_column, sub_bytes, shift_rows, mix_columns}
@@ -20,8 +22,8 @@ use Rattle.aes.proofs.Tested.{all_below, all_below_at}
 use Rattle.aes.proofs.Tables.{sbox_at}
 use Rattle.aes.proofs.Grids.{grid_is}
 use Rattle.aes.proofs.Rows.{four}
-use Rattle.aes.proofs.Linear.{unmix_column, inverse_matrix, mix_unmix, unmix_mix, unmix_column_is}
-use Rattle.aes.proofs.Linear.{unmix_column_whole}
+use Rattle.aes.specs.Code.InverseSteps.{inverse_matrix, unmix_column, inverse_mix_columns}
+use Rattle.aes.proofs.Linear.{mix_unmix, unmix_mix, unmix_column_is, unmix_column_whole}
 
 -- ---- grids
 pub at_grid : (f : ℕ → ℕ → ℕ) (r c : ℕ) → r < 4 → c < 4 → at (grid f) r c ≡ f r c
@@ -53,49 +55,41 @@ grid_of f s long same =
     ap (λ i. get_or s i 0) place ∙ sym (same (k % 4) (k / 4) (omega arith) (omega arith))))
 
 -- ---- the S-box
-onto_computed : all_below
-    (λ y. (get_or SBOX (get_or INVERSE_SBOX y 0) 0 == y) && ltb (get_or INVERSE_SBOX y 0) 256) 256 ≡ true
+-- the inverse of the S-box, by the tables of the inverse cipher
+unfoldable pub unsbox : ℕ → ℕ
+unsbox y = by_inverse PLAIN_BY_FIRST PLAIN_BY_SECOND (affine_undone y)
+
+-- the table of the S-box undoes `unsbox`, whose values are bytes, tested at each byte
+onto_computed : all_below (λ y. (get_or SBOX (unsbox y) 0 == y) && ltb (unsbox y) 256) 256 ≡ true
+unfolding unsbox u_at t_at matrix_undone
 onto_computed = refl
 
--- the inverse table undoes the S-box, tested at each byte
-back_computed : all_below (λ x. (get_or INVERSE_SBOX (get_or SBOX x 0) 0 == x) && ltb (get_or SBOX x 0) 256)
-    256 ≡ true
+-- `unsbox` undoes the table of the S-box, whose entries are bytes, tested at each byte
+back_computed : all_below (λ x. (unsbox (get_or SBOX x 0) == x) && ltb (get_or SBOX x 0) 256) 256 ≡ true
+unfolding unsbox u_at t_at matrix_undone
 back_computed = refl
 
--- the inverse of the S-box, from its table
-pub unsbox : ℕ → ℕ
-unsbox y = get_or INVERSE_SBOX y 0
+-- the table of the S-box undoes `unsbox`, whose values are bytes
+onto_parts : (y : ℕ) → y < 256 → (get_or SBOX (unsbox y) 0 ≡ y) × (unsbox y < 256)
+onto_parts y h =
+    let both = and_parts (get_or SBOX (unsbox y) 0 == y) (ltb (unsbox y) 256)
+    (all_below_at (λ y. (get_or SBOX (unsbox y) 0 == y) && ltb (unsbox y) 256) 256 y onto_computed h) in
+    (eqb-true (get_or SBOX (unsbox y) 0) y both.0, ltb-true (unsbox y) 256 both.1)
 
--- `unsbox` is the entry of the inverse table
-pub unsbox_is : (y : ℕ) → unsbox y ≡ get_or INVERSE_SBOX y 0
-unfolding unsbox
-unsbox_is y = refl
+-- `unsbox` undoes the table of the S-box, whose entries are bytes
+back_parts : (x : ℕ) → x < 256 → (unsbox (get_or SBOX x 0) ≡ x) × (get_or SBOX x 0 < 256)
+back_parts x h =
+    let both = and_parts (unsbox (get_or SBOX x 0) == x) (ltb (get_or SBOX x 0) 256)
+    (all_below_at (λ x. (unsbox (get_or SBOX x 0) == x) && ltb (get_or SBOX x 0) 256) 256 x back_computed h) in
+    (eqb-true (unsbox (get_or SBOX x 0)) x both.0, ltb-true (get_or SBOX x 0) 256 both.1)
 
 -- `unsbox` of a byte is a byte
 pub unsbox_small : (y : ℕ) → y < 256 → unsbox y < 256
-unfolding unsbox
-unsbox_small y h = ltb-true (get_or INVERSE_SBOX y 0) 256
-    (and_parts (get_or SBOX (get_or INVERSE_SBOX y 0) 0 == y) (ltb (get_or INVERSE_SBOX y 0) 256)
-    (all_below_at (λ y. (get_or SBOX (get_or INVERSE_SBOX y 0) 0 == y) && ltb (get_or INVERSE_SBOX y 0) 256)
-    256 y onto_computed h)).1
+unsbox_small y h = (onto_parts y h).1
 
 -- the S-box undoes `unsbox`
 pub sbox_unsbox : (y : ℕ) → y < 256 → sbox (unsbox y) ≡ y
-unfolding unsbox
-sbox_unsbox y h =
-    sym (sbox_at (get_or INVERSE_SBOX y 0) (rw (← (unsbox_is y)) (unsbox_small y h)))
-    ∙ eqb-true (get_or SBOX (get_or INVERSE_SBOX y 0) 0) y
-    (and_parts (get_or SBOX (get_or INVERSE_SBOX y 0) 0 == y) (ltb (get_or INVERSE_SBOX y 0) 256)
-    (all_below_at (λ y. (get_or SBOX (get_or INVERSE_SBOX y 0) 0 == y) && ltb (get_or INVERSE_SBOX y 0) 256)
-    256 y onto_computed h)).0
-
--- the inverse table undoes the S-box's table, whose entries are bytes
-back_parts : (x : ℕ) → x < 256 → (get_or INVERSE_SBOX (get_or SBOX x 0) 0 ≡ x) × (get_or SBOX x 0 < 256)
-back_parts x h =
-    let both = and_parts (get_or INVERSE_SBOX (get_or SBOX x 0) 0 == x) (ltb (get_or SBOX x 0) 256)
-    (all_below_at (λ x. (get_or INVERSE_SBOX (get_or SBOX x 0) 0 == x) && ltb (get_or SBOX x 0) 256) 256 x
-    back_computed h) in
-    (eqb-true (get_or INVERSE_SBOX (get_or SBOX x 0) 0) x both.0, ltb-true (get_or SBOX x 0) 256 both.1)
+sbox_unsbox y h = sym (sbox_at (unsbox y) (unsbox_small y h)) ∙ (onto_parts y h).0
 
 -- the S-box of a byte is a byte
 pub sbox_small : (x : ℕ) → x < 256 → sbox x < 256
@@ -103,8 +97,7 @@ sbox_small x h = rw (← (sbox_at x h)) (back_parts x h).1
 
 -- `unsbox` undoes the S-box
 pub unsbox_sbox : (x : ℕ) → x < 256 → unsbox (sbox x) ≡ x
-unfolding unsbox
-unsbox_sbox x h = ap (λ y. get_or INVERSE_SBOX y 0) (sym (sbox_at x h)) ∙ (back_parts x h).0
+unsbox_sbox x h = ap unsbox (sym (sbox_at x h)) ∙ (back_parts x h).0
 
 -- ---- SubBytes
 pub unsub : List ℕ → List ℕ
@@ -198,10 +191,6 @@ column_at s (suc (suc zero)) c h = refl
 column_at s (suc (suc (suc zero))) c h = refl
 column_at s (suc (suc (suc (suc r)))) c h = absurd (omega arith)
 
--- the inverse of MixColumns
-pub unmix : List ℕ → List ℕ
-unmix s = grid (λ r c. get_or (unmix_column (column s c)) r 0)
-
 -- MixColumns gives a block
 pub mix_block : (s : List ℕ) → IsBlock (mix_columns s)
 unfolding mix_columns mix_column
@@ -212,9 +201,9 @@ mix_block s = grid_block (λ r c. get_or (mix_column (column s c)) r 0)
 inverse_row_small : (v : List ℕ) (r : ℕ) → get_or (unmix_column v) r 0 < 256
 inverse_row_small v r = rw (unmix_column_is v) (row_small inverse_matrix v r)
 
--- `unmix` gives a block
-pub unmix_block : (s : List ℕ) → IsBlock (unmix s)
-unfolding unmix
+-- `inverse_mix_columns` gives a block
+pub unmix_block : (s : List ℕ) → IsBlock (inverse_mix_columns s)
+unfolding inverse_mix_columns
 unmix_block s = grid_block (λ r c. get_or (unmix_column (column s c)) r 0)
     (λ r c hr hc. inverse_row_small (column s c) r)
 
@@ -229,17 +218,17 @@ column_mix : (s : List ℕ) (c : ℕ) → c < 4 → column (mix_columns s) c ≡
 unfolding mix_columns mix_column
 column_mix s c h = column_grid (λ r c. get_or (mix_column (column s c)) r 0) c h
 
--- a column after `unmix` is the product of the inverse matrix and the column
-column_unmix : (s : List ℕ) (c : ℕ) → c < 4 → column (unmix s) c ≡ unmix_column (column s c)
-unfolding unmix
+-- a column after `inverse_mix_columns` is the product of the inverse matrix and the column
+column_unmix : (s : List ℕ) (c : ℕ) → c < 4 → column (inverse_mix_columns s) c ≡ unmix_column (column s c)
+unfolding inverse_mix_columns
 column_unmix s c h =
     column_grid (λ r c. get_or (unmix_column (column s c)) r 0) c h ∙ unmix_column_whole (column s c)
 
--- MixColumns undoes `unmix`
-pub mix_unmix_block : (s : List ℕ) → IsBlock s → mix_columns (unmix s) ≡ s
+-- MixColumns undoes `inverse_mix_columns`
+pub mix_unmix_block : (s : List ℕ) → IsBlock s → mix_columns (inverse_mix_columns s) ≡ s
 unfolding mix_columns
 mix_unmix_block s b =
-    grid_of (λ r c. get_or (mix_column (column (unmix s) c)) r 0) s b.length_is
+    grid_of (λ r c. get_or (mix_column (column (inverse_mix_columns s) c)) r 0) s b.length_is
     (λ r c hr hc.
     ap (λ v. get_or (mix_column v) r 0) (column_unmix s c hc)
     ∙ ap (λ v. get_or v r 0)
@@ -247,9 +236,9 @@ mix_unmix_block s b =
     (b.bytes (2 + 4 * c)) (b.bytes (3 + 4 * c)))
     ∙ column_at s r c hr)
 
--- `unmix` undoes MixColumns
-pub unmix_mix_block : (s : List ℕ) → IsBlock s → unmix (mix_columns s) ≡ s
-unfolding unmix
+-- `inverse_mix_columns` undoes MixColumns
+pub unmix_mix_block : (s : List ℕ) → IsBlock s → inverse_mix_columns (mix_columns s) ≡ s
+unfolding inverse_mix_columns
 unmix_mix_block s b =
     grid_of (λ r c. get_or (unmix_column (column (mix_columns s) c)) r 0) s b.length_is
     (λ r c hr hc.

@@ -2,6 +2,8 @@
 -- stream, and facts about counters that its proofs need. The cipher and the streams are defined without it.
 pub mod ExpandedKey
 pub mod InverseKey
+pub mod InverseLanes
+pub mod InverseSteps
 pub mod Lanes
 pub mod Nibbles
 pub mod Planes

@@ -517,8 +517,6 @@ impl<C: Count, K: KeptKey> Ctr<C, K> {
     /// A counter block must never be used twice under one key: `first` and the blocks counted from it belong to this stream
     /// alone. Two texts that are XORed with the same part of a stream give away their XOR. [`CtrBe`] and [`CtrLe`] say what
     /// else a repeat gives away.
-    ///
-    /// Not constant time: single blocks go through `AesKey::encrypt`.
     #[inline(always)]
     pub fn new(key: K, first: &Block) -> Ctr<C, K>
         ensures { Holds C.up K.bytes result (K.bytes key) first.now 0 }

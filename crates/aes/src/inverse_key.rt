@@ -1,49 +1,57 @@
 //! A key made ready to decrypt: the equivalent inverse cipher (FIPS 197, 5.3.5).
 
-ghost use Rattle.std.specs.Prelude.{◌≡◌, ◌≤◌, ℕ, List};
+ghost use Rattle.std.specs.Prelude.{◌≡◌, ◌<◌, ◌≤◌, ℕ, List};
 ghost use Rattle.octets.specs.Bytes.{IsBlock};
-ghost use Rattle.aes.specs.Cipher.{IsPreimage};
+ghost use Rattle.aes.specs.Schedule.{round_count};
+ghost use Rattle.aes.specs.Cipher.{IsKey, IsPreimage};
 
-use crate::columns::{add_key, load, round_key, store};
-use crate::inverse::{inverse_round, unsub_rows};
+use crate::inverse_lanes::{begin, end, inverse_round, middle_key};
 use octets::Block;
+use std::simd::prelude::*;
+use std::simd::u8x16;
 
-/// A key of AES made ready to decrypt many blocks: its schedule, with InvMixColumns applied to all round keys but the first and
-/// the last (FIPS 197, 5.3.5). Not constant time: see [`InverseKey::decrypt`].
+/// A key of AES made ready to decrypt many blocks: its round keys, with InvMixColumns applied to all but the first and the last
+/// (FIPS 197, 5.3.5). No table in memory is looked up by a byte of the key or of a state; that its calls take the same time for
+/// all keys and blocks is not proved.
 #[derive(Clone, Copy)]
 pub struct InverseKey {
-    words: [u32; 60],
-    size: usize,
-    ghost small: { size ≤ 8 },
+    keys: [[u8; 16]; 15],
+    rounds: usize,
+    ghost some: { 0 < rounds },
+    ghost few: { rounds < 15 },
 }
 
 impl InverseKey {
-    ghost use Rattle.aes.specs.Code.InverseKey.{IsInverse};
+    ghost use Rattle.aes.specs.Code.InverseKey.{IsInverse, HasRoundKeys};
 
-    // Makes the key of these words.
-    pub(crate) fn new(words: [u32; 60], size: usize) -> InverseKey
-        requires { size ≤ 8 }
-        ensures words { result.words ≡ words }
-        ensures size { result.size ≡ size }
+    // Makes the key with these round keys, one more than it has rounds.
+    pub(crate) fn new(round_keys: &[[u8; 16]; 15], rounds: usize) -> InverseKey
+        requires some { 0 < rounds }
+        requires few { rounds < 15 }
+        ensures { (key : List ℕ) → IsKey key → rounds ≡ round_count key → HasRoundKeys round_keys.now key
+            → IsInverse result key }
     {
-        InverseKey { words, size }
+        let mut keys = *round_keys;
+        'middle: for n in 1..rounds {
+            keys[n] = middle_key(u8x16::from_array(round_keys[n]));
+        }
+        InverseKey { keys, rounds }
     }
 
     /// Returns the block of 16 bytes that the cipher takes to `block`; it is the only one (FIPS 197, 5.3.5).
     ///
-    /// Not constant time: each round but the last looks up four tables of 256 words, 4 KiB in all, by the 16 bytes of its
-    /// state, and the last looks up the inverse of the S-box, a table of 256 bytes.
+    /// It looks up no table in memory by a byte of the key or of the state: its tables of 16 bytes are vectors, as are the bytes
+    /// that index them. That it takes the same time for all keys and blocks is not proved.
     pub fn decrypt(&self, block: &Block) -> Block
         ensures value { (key : List ℕ) → IsInverse self.now key → IsPreimage key block.now result }
         ensures is_block { IsBlock result }
     {
-        let count = self.size + 6;
-        let mut state = add_key(load(block.bytes()), round_key(&self.words, count));
-        for done in 0..count - 1 {
-            let next = inverse_round(state, round_key(&self.words, count - 1 - done));
+        let last = self.rounds;
+        let mut state = begin(block.bytes(), self.keys[last]);
+        for done in 0..last - 1 {
+            let next = inverse_round(state, self.keys[last - 1 - done]);
             state = next;
         }
-        let first = add_key(unsub_rows(state), round_key(&self.words, 0));
-        Block::new(store(first))
+        Block::new(end(state, self.keys[0]))
     }
 }

@@ -5,15 +5,14 @@ ghost use Rattle.std.specs.Prelude.{MatchResult};
 ghost use Rattle.octets.specs.Bytes.{IsBlock, block_at};
 ghost use Rattle.aes.specs.Cipher.{cipher, IsKey, IsKeyLength, IsPreimage};
 ghost use Rattle.aes.specs.Code.ExpandedKey.{own_key};
-ghost use Rattle.aes.specs.Code.InverseKey.{IsInverse};
+ghost use Rattle.aes.specs.Code.InverseKey.{HasRoundKeys, IsInverse};
 ghost use Rattle.aes.specs.Code.Lanes.{HoldsBlocks, row_target};
 ghost use Rattle.aes.specs.Code.Columns.{column_of, columns_of};
 ghost use Rattle.aes.specs.Code.Planes.{AreReady, HoldsBits, HoldsEight, HoldsLanes, HoldsSixteen, word_byte};
 ghost use Rattle.aes.specs.Code.ReadyKeys.{KeepsReadyKeys};
-ghost use Rattle.aes.specs.Schedule.{schedule, round_count, word};
+ghost use Rattle.aes.specs.Schedule.{schedule, round_count};
 
 use crate::columns::{add_key, last_round, load, round, store};
-use crate::inverse::unmix_words;
 use crate::inverse_key::InverseKey;
 use crate::key_planes::{KeyPlanes, ready_planes, unpack};
 use crate::lanes::{self, Lanes, from_basis};
@@ -26,13 +25,13 @@ use std::simd::{u8x16, u8x32, u8x64};
 
 /// A key of AES with its round keys (FIPS 197, 5.2). Contracts see the key's bytes: 16, 24 or 32.
 ///
-/// Making a key, `encrypt_in_registers`, `encrypt_two` and `encrypt_four` have their tables of 16 bytes in vectors: no branch and no address in
-/// memory depends on a byte of the key or of a block.
+/// Making a key, `encrypt_in_registers`, `encrypt_two`, `encrypt_four`, `inverse` and `decrypt` have their tables of 16 bytes in
+/// vectors: no branch and no address in memory depends on a byte of the key or of a block. That they take the same time for all
+/// keys and blocks is not proved.
 ///
 /// `encrypt` is not constant time: it looks up four tables of 256 words, 4 KiB in all, by each byte of the state in each round;
-/// the first state is the block XORed with a round key. `inverse` and `decrypt` look up tables by bytes of the schedule and of
-/// the state: see [`InverseKey`]. Code on the same processor may learn from the cache which entries were read, and from these
-/// the key.
+/// the first state is the block XORed with a round key. Code on the same processor may learn from the cache which entries were
+/// read, and from these the key.
 #[derive(Clone, Copy)]
 pub struct AesKey {
     // The round keys as the rounds in lanes take them, and zeros after them.
@@ -183,12 +182,11 @@ impl AesKey {
     }
 
     // The round keys as the standard has them, and zeros after them (FIPS 197, 5.2).
-    pub(crate) fn plain_keys(&self) -> [[u8; 16]; 15]
-        ensures { (n i : ℕ) → n ≤ round_count self.now → i < 16
-            → slice_index (slice_index_or result n []) i ≡ word_byte (schedule self.now) n i }
+    fn round_keys(&self) -> [[u8; 16]; 15]
+        ensures { HasRoundKeys result self.now }
     {
         let mut keys = [[0; 16]; 15];
-        for n in 0..self.size + 7 {
+        'keys: for n in 0..self.size + 7 {
             keys[n] = self.plain_key(n);
         }
         keys
@@ -203,21 +201,6 @@ impl AesKey {
     {
         self.is_key();
         load(&self.plain_key(n))
-    }
-
-    // The words of the schedule, and zeros after them (FIPS 197, 5.2).
-    fn words(&self) -> [u32; 60]
-        ensures { (k : ℕ) → k < 4 * (round_count self.now + 1) → column_of (slice_index result k) ≡ word self.now k }
-    {
-        let mut words = [0; 60];
-        for n in 0..self.size + 7 {
-            let key = self.round_key(n);
-            words[4 * n] = key[0];
-            words[4 * n + 1] = key[1];
-            words[4 * n + 2] = key[2];
-            words[4 * n + 3] = key[3];
-        }
-        words
     }
 
     /// Returns the block of 16 bytes that the cipher takes `block` to (FIPS 197, 5.1), by the tables of [`round`](crate::round).
@@ -387,16 +370,18 @@ impl AesKey {
         (first.to_array(), second.to_array())
     }
 
-    /// Returns this key made ready for `InverseKey::decrypt` (FIPS 197, 5.3.5). Not constant time: it looks up the S-box by the
-    /// bytes of the schedule, and four tables of 256 words by the bytes that it finds there.
+    /// Returns this key made ready for `InverseKey::decrypt` (FIPS 197, 5.3.5). It looks up no table in memory by a byte of the
+    /// key. That it takes the same time for all keys is not proved.
     pub fn inverse(&self) -> InverseKey
         ensures { IsInverse result self.now }
     {
-        InverseKey::new(unmix_words(&self.words(), self.size + 6), self.size)
+        self.is_key();
+        InverseKey::new(&self.round_keys(), self.size + 6)
     }
 
     /// Returns the block of 16 bytes that the cipher takes to `block`; it is the only one (FIPS 197, 5.3). To decrypt many
-    /// blocks, make the `inverse` once. Not constant time: see `inverse` and `InverseKey::decrypt`.
+    /// blocks, make the `inverse` once. It looks up no table in memory by a byte of the key or of the state. That it takes the
+    /// same time for all keys and blocks is not proved.
     pub fn decrypt(&self, block: &Block) -> Block
         ensures value { IsPreimage self.now block.now result }
         ensures is_block { IsBlock result }

@@ -1,8 +1,8 @@
 //! AES with keys of 128, 192 and 256 bits, both ways (FIPS 197), and its streams of counting blocks (SP 800-38D, RFC 8452).
 //!
 //! [`AesKey::encrypt_in_registers`] and [`AesKey::encrypt_four`], the streams, and the making of a key read no table in memory by
-//! a secret byte. [`AesKey::encrypt`], [`round`] and the inverse cipher are not constant time: [`AesKey`] says which table is
-//! looked up by which secret bytes.
+//! a secret byte. [`AesKey::encrypt`] and [`round`] are not constant time: they say which table is looked up by which secret
+//! bytes.
 //!
 //! From `crates/aes/src/uses.rt`:
 //! ```
@@ -21,8 +21,8 @@ mod cipher;
 mod columns;
 mod counted_planes;
 mod counter;
-mod inverse;
 mod inverse_key;
+mod inverse_lanes;
 mod key;
 mod key_planes;
 mod lanes;

@@ -1,17 +1,21 @@
 -- A key that is prepared for the equivalent inverse cipher (FIPS 197, 5.3.5).
-use Rattle.std.specs.Prelude.{◌≡◌, ℕ, ◌+◌, ◌*◌, ◌<◌, ◌≤◌, List, length, slice_index}
-use Rattle.aes.specs.Code.Columns.{column_of}
-use Rattle.aes.specs.Schedule.{word}
-use Rattle.aes.specs.Cipher.{mix_column, IsKey}
+use Rattle.std.specs.Prelude.{◌≡◌, ℕ, ◌<◌, ◌≤◌, List, [], slice_index_or}
+use Rattle.aes.specs.Schedule.{schedule, round_count}
+use Rattle.aes.specs.Cipher.{IsKey}
+use Rattle.aes.specs.Code.InverseSteps.{round_key, inverse_mix_columns}
+use Rattle.aes.specs.Code.InverseLanes.{undone}
 use Rattle.aes.specs.declared.inverse_key.InverseKey.{InverseKey}
 
--- the words of s are those of the key's schedule, except that MixColumns is undone in the rounds between the first and the last
+-- the arrays are the round keys of the key's schedule, in order
+pub record HasRoundKeys (keys : List (List ℕ)) (key : List ℕ) : Type 0 where
+  pub each : (n : ℕ) → n ≤ round_count key → slice_index_or keys n [] ≡ round_key (schedule key) n
+
+-- the arrays of s are the round keys of the key's schedule; those between the first and the last are after InvMixColumns, in the
+-- form that the inverse S-box takes
 pub record IsInverse (s : InverseKey) (key : List ℕ) : Type 0 where
   pub is_key : IsKey key
-  pub size_is : length key ≡ 4 * s.size
-  pub long : length s.words ≡ 60
-  pub first : (k : ℕ) → k < 4 → column_of (slice_index s.words k) ≡ word key k
-  pub middle : (k : ℕ) → 4 ≤ k → k < 4 * (s.size + 6)
-      → mix_column (column_of (slice_index s.words k)) ≡ word key k
-  pub last : (k : ℕ) → 4 * (s.size + 6) ≤ k → k < 4 * (s.size + 7)
-      → column_of (slice_index s.words k) ≡ word key k
+  pub rounds_are : s.rounds ≡ round_count key
+  pub first : slice_index_or s.keys 0 [] ≡ round_key (schedule key) 0
+  pub middle : (n : ℕ) → 0 < n → n < s.rounds
+      → slice_index_or s.keys n [] ≡ undone (inverse_mix_columns (round_key (schedule key) n))
+  pub last : slice_index_or s.keys s.rounds [] ≡ round_key (schedule key) s.rounds

@@ -1,14 +1,15 @@
-use Rattle.std.proofs.Common.{◌≡◌, ℕ, ◌-◌, List, length}
+use Rattle.std.proofs.Common.{◌≡◌, ℕ, ◌-◌, List}
+use Rattle.octets.specs.Bytes.{IsBlock}
 use Rattle.aes.specs.Schedule.{schedule, round_count}
 use Rattle.aes.specs.Cipher.{shift_rows, sub_bytes, rounds, cipher}
-use Rattle.aes.specs.Code.Columns.{state_of}
+use Rattle.aes.specs.Code.InverseLanes.{undone}
 use Rattle.aes.specs.Code.InverseKey.{IsInverse}
 use Rattle.aes.proofs.inverse_key.InverseKey.decrypt.Given as goal
 
--- a block that comes to the state at hand by the rounds that are left, and then SubBytes and ShiftRows, is taken to the given block
--- by the cipher
+-- the state at hand is a block t with the affine map undone; a block that comes to t by the rounds that are left, and then SubBytes
+-- and ShiftRows, is taken to the given block by the cipher
 abbrev pub invariant-loop-done : goal.invariant-loop-done
-invariant-loop-done l = (length l.state ≡ 4)
-    × ((key : List ℕ) → IsInverse l.self key → (b : List ℕ)
-    → shift_rows (sub_bytes (rounds (schedule key) (round_count key - 1 - l.done) b)) ≡ state_of l.state
+invariant-loop-done l = (key : List ℕ) → IsInverse l.self key
+    → (t : List ℕ) × IsBlock t × (l.state ≡ undone t)
+    × ((b : List ℕ) → shift_rows (sub_bytes (rounds (schedule key) (round_count key - 1 - l.done) b)) ≡ t
     → cipher key b ≡ l.block)

@@ -1,0 +1,328 @@
+//! One block in a vector of 16 bytes, for the inverse cipher (FIPS 197, 5.3.5), with look-ups in tables of sixteen bytes. The
+//! tables are vectors: none is read from memory by a byte of the state or of a key.
+//!
+//! A state is kept as the inverse S-box takes it: each byte with the affine map of the S-box undone, and in a basis in which the
+//! field of 256 elements is an extension of its subfield of 16. There an inverse takes five look-ups, in which 0x80 stands for
+//! the inverse of 0.
+
+ghost use Rattle.std.specs.Prelude.{◌≡◌, ℕ, ◌+◌, ◌-◌, ◌/◌, ◌%◌, ◌<◌, ◌≤◌, List, length, slice_index, bit_xor};
+ghost use Rattle.std.specs.Prelude.{nat_lt, nat_le, if◌then◌else◌};
+ghost use Rattle.octets.specs.Bytes.{IsBlock};
+ghost use Rattle.aes.specs.Cipher.{sub_bytes, shift_rows, add_round_key};
+ghost use Rattle.aes.specs.Code.InverseSteps.{round_key, inverse_mix_columns};
+ghost use Rattle.aes.specs.Code.InverseLanes.{HasSixteen, IsShortPlace, find, row_below, unshifted_from, mix_of};
+ghost use Rattle.aes.specs.Code.InverseLanes.{u_at, t_at, affine_undone, undone};
+
+use std::simd::prelude::*;
+use std::simd::{u8x16, u32x4};
+
+// The inverses in the subfield.
+const INVERSE: [u8; 16] = [
+    0x80, 0x01, 0x08, 0x0d, 0x0f, 0x06, 0x05, 0x0e, 0x02, 0x0c, 0x0b, 0x0a, 0x09, 0x03, 0x07, 0x04,
+];
+
+// The inverses in the subfield times a constant.
+const SCALED: [u8; 16] = [
+    0x80, 0x0c, 0x0d, 0x0b, 0x05, 0x04, 0x06, 0x09, 0x0e, 0x07, 0x0f, 0x03, 0x01, 0x02, 0x08, 0x0a,
+];
+
+// The bytes below 16 with the matrix of the affine map undone, in the basis.
+const UNDONE_LOW: [u8; 16] = [
+    0x00, 0x83, 0xf4, 0x77, 0xff, 0x7c, 0x0b, 0x88, 0x5b, 0xd8, 0xaf, 0x2c, 0xa4, 0x27, 0x50, 0xd3,
+];
+
+// The multiples of 16 with the matrix of the affine map undone, in the basis.
+const UNDONE_HIGH: [u8; 16] = [
+    0x00, 0xd2, 0xdd, 0x0f, 0xb8, 0x6a, 0x65, 0xb7, 0xfd, 0x2f, 0x20, 0xf2, 0x45, 0x97, 0x98, 0x4a,
+];
+
+// The part of the inverse S-box that the first nibble of an inverse gives.
+const PLAIN_BY_FIRST: [u8; 16] = [
+    0x00, 0x82, 0x92, 0x25, 0x67, 0x77, 0xb7, 0xe5, 0x42, 0xa7, 0x52, 0xd0, 0x10, 0xc0, 0xf5, 0x35,
+];
+
+// The part that the second nibble gives.
+const PLAIN_BY_SECOND: [u8; 16] = [
+    0x00, 0xcd, 0xa1, 0x83, 0xa8, 0xc4, 0x22, 0x65, 0x2b, 0x4e, 0x47, 0x8a, 0x6c, 0xe6, 0x09, 0xef,
+];
+
+// The part of 14 times the inverse S-box that the first nibble gives, with the matrix undone, in the basis.
+const FOURTEEN_BY_FIRST: [u8; 16] = [
+    0x00, 0x4d, 0xd5, 0xbf, 0xce, 0x56, 0x6a, 0x83, 0x71, 0xf2, 0xe9, 0xa4, 0x98, 0x3c, 0x1b, 0x27,
+];
+
+// The part that the second nibble gives.
+const FOURTEEN_BY_SECOND: [u8; 16] = [
+    0x00, 0x8f, 0xd0, 0x1d, 0x37, 0x68, 0xcd, 0xb8, 0x2a, 0x92, 0x75, 0xfa, 0x5f, 0xa5, 0xe7, 0x42,
+];
+
+// 14 times each byte below 16, with the matrix undone, in the basis.
+const FOURTEEN_LOW: [u8; 16] = [
+    0x00, 0x50, 0x76, 0x26, 0x54, 0x04, 0x22, 0x72, 0xb7, 0xe7, 0xc1, 0x91, 0xe3, 0xb3, 0x95, 0xc5,
+];
+
+// 14 times each multiple of 16, with the matrix undone, in the basis.
+const FOURTEEN_HIGH: [u8; 16] = [
+    0x00, 0x98, 0xbb, 0x23, 0x07, 0x9f, 0xbc, 0x24, 0x3b, 0xa3, 0x80, 0x18, 0x3c, 0xa4, 0x87, 0x1f,
+];
+
+// The part of 11 times the inverse S-box that the first nibble gives, with the matrix undone, in the basis.
+const ELEVEN_BY_FIRST: [u8; 16] = [
+    0x00, 0x1b, 0xe9, 0xce, 0x56, 0xa4, 0x27, 0x4d, 0x98, 0xd5, 0x6a, 0x71, 0xf2, 0x83, 0xbf, 0x3c,
+];
+
+// The part that the second nibble gives.
+const ELEVEN_BY_SECOND: [u8; 16] = [
+    0x00, 0xe7, 0x75, 0x37, 0x68, 0xfa, 0x42, 0x8f, 0x5f, 0xd0, 0xcd, 0x2a, 0x92, 0xb8, 0x1d, 0xa5,
+];
+
+// 11 times each byte below 16, with the matrix undone, in the basis.
+const ELEVEN_LOW: [u8; 16] = [
+    0x00, 0x2c, 0xd9, 0xf5, 0x79, 0x55, 0xa0, 0x8c, 0x31, 0x1d, 0xe8, 0xc4, 0x48, 0x64, 0x91, 0xbd,
+];
+
+// 11 times each multiple of 16, with the matrix undone, in the basis.
+const ELEVEN_HIGH: [u8; 16] = [
+    0x00, 0xf2, 0x9b, 0x69, 0x41, 0xb3, 0xda, 0x28, 0xc2, 0x30, 0x59, 0xab, 0x83, 0x71, 0x18, 0xea,
+];
+
+// The part of 13 times the inverse S-box that the first nibble gives, with the matrix undone, in the basis.
+const THIRTEEN_BY_FIRST: [u8; 16] = [
+    0x00, 0x45, 0xd2, 0x09, 0x36, 0xa1, 0xdb, 0x73, 0x3f, 0x4c, 0xa8, 0xed, 0x97, 0x7a, 0xe4, 0x9e,
+];
+
+// The part that the second nibble gives.
+const THIRTEEN_BY_SECOND: [u8; 16] = [
+    0x00, 0x93, 0xc1, 0x62, 0xd8, 0x8a, 0xa3, 0x4b, 0xba, 0xf1, 0xe8, 0x7b, 0x52, 0x29, 0x19, 0x30,
+];
+
+// 13 times each byte below 16, with the matrix undone, in the basis.
+const THIRTEEN_LOW: [u8; 16] = [
+    0x00, 0x27, 0x7d, 0x5a, 0xf0, 0xd7, 0x8d, 0xaa, 0x3e, 0x19, 0x43, 0x64, 0xce, 0xe9, 0xb3, 0x94,
+];
+
+// 13 times each multiple of 16, with the matrix undone, in the basis.
+const THIRTEEN_HIGH: [u8; 16] = [
+    0x00, 0x97, 0xde, 0x49, 0x42, 0xd5, 0x9c, 0x0b, 0x38, 0xaf, 0xe6, 0x71, 0x7a, 0xed, 0xa4, 0x33,
+];
+
+// The part of 9 times the inverse S-box that the first nibble gives, with the matrix undone, in the basis.
+const NINE_BY_FIRST: [u8; 16] = [
+    0x00, 0x1a, 0x35, 0xd9, 0x43, 0x6c, 0xec, 0x59, 0x9a, 0xc3, 0xb5, 0xaf, 0x2f, 0x80, 0x76, 0xf6,
+];
+
+// The part that the second nibble gives.
+const NINE_BY_SECOND: [u8; 16] = [
+    0x00, 0x99, 0xc7, 0xc2, 0xfc, 0xa2, 0x05, 0x65, 0x3e, 0x5b, 0x60, 0xf9, 0x5e, 0xa7, 0x3b, 0x9c,
+];
+
+// 9 times each byte below 16, with the matrix undone, in the basis.
+const NINE_LOW: [u8; 16] = [
+    0x00, 0xd8, 0x26, 0xfe, 0x22, 0xfa, 0x04, 0xdc, 0xe3, 0x3b, 0xc5, 0x1d, 0xc1, 0x19, 0xe7, 0x3f,
+];
+
+// 9 times each multiple of 16, with the matrix undone, in the basis.
+const NINE_HIGH: [u8; 16] = [
+    0x00, 0x2f, 0x23, 0x0c, 0xbc, 0x93, 0x9f, 0xb0, 0x3c, 0x13, 0x1f, 0x30, 0x80, 0xaf, 0xa3, 0x8c,
+];
+
+// Indices into a table of sixteen bytes: each is below 16, or from 128 to 143, where 0 is read.
+#[derive(Drop, Clone, Copy)]
+struct Places {
+    lanes: u8x16,
+    ghost long: { length lanes ≡ 16 },
+    ghost each: { (k : ℕ) → k < 16 → IsShortPlace (slice_index lanes k) },
+}
+
+// The low nibble of each lane.
+#[inline(always)]
+fn low_nibbles(x: u8x16) -> Places
+    ensures { HasSixteen result.lanes (λ k. slice_index x k % 16) }
+{
+    Places {
+        lanes: x & u8x16::splat(15),
+    }
+}
+
+// The high nibble of each lane.
+#[inline(always)]
+fn high_nibbles(x: u8x16) -> Places
+    ensures { HasSixteen result.lanes (λ k. slice_index x k / 16) }
+{
+    Places {
+        lanes: x >> u8x16::splat(4),
+    }
+}
+
+// Adds the places.
+#[inline(always)]
+fn add_places(x: Places, y: Places) -> Places
+    ensures { HasSixteen result.lanes (λ k. bit_xor (slice_index x.lanes k) (slice_index y.lanes k)) }
+{
+    Places {
+        lanes: x.lanes ^ y.lanes,
+    }
+}
+
+// Adds the lanes.
+#[inline(always)]
+fn sum(x: u8x16, y: u8x16) -> u8x16
+    ensures { HasSixteen result (λ k. bit_xor (slice_index x k) (slice_index y k)) }
+{
+    x ^ y
+}
+
+// Looks each place up in the table.
+#[inline(always)]
+fn look_up(table: [u8; 16], at: Places) -> u8x16
+    ensures { HasSixteen result (λ k. find table (slice_index at.lanes k)) }
+{
+    u8x16::from_array(table).swizzle_dyn_within::<16>(at.lanes)
+}
+
+// Looks each place up in a table of places.
+#[inline(always)]
+fn look_up_places(table: [u8; 16], at: Places) -> Places
+    requires { (k : ℕ) → k < 16 → IsShortPlace (slice_index table k) }
+    ensures { HasSixteen result.lanes (λ k. find table (slice_index at.lanes k)) }
+{
+    Places {
+        lanes: look_up(table, at),
+    }
+}
+
+// The two nibbles of the inverse of each byte, which is in the basis.
+#[inline(always)]
+fn inverse(x: u8x16) -> (Places, Places)
+    ensures { HasSixteen result.0.lanes (λ k. u_at (slice_index x k))
+        × HasSixteen result.1.lanes (λ k. t_at (slice_index x k)) }
+{
+    let low = low_nibbles(x);
+    let high = high_nibbles(x);
+    let both = add_places(low, high);
+    let scaled = look_up_places(SCALED, low);
+    let first = add_places(look_up_places(INVERSE, high), scaled);
+    let second = add_places(look_up_places(INVERSE, both), scaled);
+    (
+        add_places(look_up_places(INVERSE, first), both),
+        add_places(look_up_places(INVERSE, second), high),
+    )
+}
+
+// The sum of the entries of two tables.
+#[inline(always)]
+fn look_up_both(first: [u8; 16], second: [u8; 16], u: Places, t: Places) -> u8x16
+    ensures { HasSixteen result
+        (λ k. bit_xor (find first (slice_index u.lanes k)) (find second (slice_index t.lanes k))) }
+{
+    sum(look_up(first, u), look_up(second, t))
+}
+
+// Undoes ShiftRows (FIPS 197, 5.3.1).
+#[inline(always)]
+fn unshift_rows(x: u8x16) -> u8x16
+    ensures { HasSixteen result (λ i. slice_index x (unshifted_from i)) }
+{
+    x.swizzle([0, 13, 10, 7, 4, 1, 14, 11, 8, 5, 2, 15, 12, 9, 6, 3])
+}
+
+// Moves each column up by some rows, and fills the last ones with zeros.
+#[inline(always)]
+fn rows_up(x: u8x16, rows: u32) -> u8x16
+    requires { rows < 4 }
+    ensures { HasSixteen result (λ i. if nat_lt (i % 4 + rows) 4 then slice_index x (i + rows) else 0) }
+{
+    (u32x4::from_le_bytes(x) >> u32x4::splat(8 * rows)).to_le_bytes()
+}
+
+// Moves each column down by some rows, and fills the first ones with zeros.
+#[inline(always)]
+fn rows_down(x: u8x16, rows: u32) -> u8x16
+    requires { rows < 4 }
+    ensures { HasSixteen result (λ i. if nat_le rows (i % 4) then slice_index x (i - rows) else 0) }
+{
+    (u32x4::from_le_bytes(x) << u32x4::splat(8 * rows)).to_le_bytes()
+}
+
+// The sum of the multiples of the rows that InvMixColumns adds (FIPS 197, 5.3.3), and of a round key. The two halves of a
+// rotation stand in different sums: side by side they become a shuffle, and only one port of the processor has those.
+#[inline(always)]
+fn mix(by14: u8x16, by11: u8x16, by13: u8x16, by9: u8x16, key: u8x16) -> u8x16
+    ensures { HasSixteen result (λ i. bit_xor (mix_of (slice_index by14 i) (slice_index by11 (row_below 1 i))
+        (slice_index by13 (row_below 2 i)) (slice_index by9 (row_below 3 i))) (slice_index key i)) }
+{
+    let up = sum(sum(rows_up(by9, 3), rows_up(by13, 2)), rows_up(by11, 1));
+    let down = sum(
+        sum(rows_down(by9, 1), rows_down(by13, 2)),
+        rows_down(by11, 3),
+    );
+    sum(sum(by14, key), sum(up, down))
+}
+
+// InvMixColumns of a round key, with the affine map undone at each byte, in the basis.
+#[inline(always)]
+pub(crate) fn middle_key(x: u8x16) -> [u8; 16]
+    ensures { result ≡ undone (inverse_mix_columns x) }
+{
+    let low = low_nibbles(x);
+    let high = high_nibbles(x);
+    mix(
+        look_up_both(FOURTEEN_LOW, FOURTEEN_HIGH, low, high),
+        look_up_both(ELEVEN_LOW, ELEVEN_HIGH, low, high),
+        look_up_both(THIRTEEN_LOW, THIRTEEN_HIGH, low, high),
+        look_up_both(NINE_LOW, NINE_HIGH, low, high),
+        u8x16::splat(0x12),
+    )
+    .to_array()
+}
+
+// Undoes the affine map of the S-box at each byte, and changes the byte into the basis.
+#[inline(always)]
+fn undo_affine(x: u8x16) -> u8x16
+    ensures { HasSixteen result (λ k. affine_undone (slice_index x k)) }
+{
+    sum(
+        look_up_both(UNDONE_LOW, UNDONE_HIGH, low_nibbles(x), high_nibbles(x)),
+        u8x16::splat(0x12),
+    )
+}
+
+// AddRoundKey with the last round key, and then the affine map undone at each byte, in the basis.
+#[inline(always)]
+pub(crate) fn begin(block: &[u8; 16], key: [u8; 16]) -> u8x16
+    ensures { (ws : List (List ℕ)) (n : ℕ) → key ≡ round_key ws n
+        → result ≡ undone (add_round_key ws n block.now) }
+{
+    undo_affine(sum(u8x16::from_array(*block), u8x16::from_array(key)))
+}
+
+// A round of the equivalent inverse cipher, with a round key of `middle_key`.
+#[inline(always)]
+pub(crate) fn inverse_round(x: u8x16, key: [u8; 16]) -> u8x16
+    ensures { (s : List ℕ) (ws : List (List ℕ)) (n : ℕ) → IsBlock s → x ≡ undone (shift_rows (sub_bytes s))
+        → key ≡ undone (inverse_mix_columns (round_key ws n))
+        → result ≡ undone (inverse_mix_columns (add_round_key ws n s)) }
+{
+    let (u, t) = inverse(unshift_rows(x));
+    mix(
+        look_up_both(FOURTEEN_BY_FIRST, FOURTEEN_BY_SECOND, u, t),
+        look_up_both(ELEVEN_BY_FIRST, ELEVEN_BY_SECOND, u, t),
+        look_up_both(THIRTEEN_BY_FIRST, THIRTEEN_BY_SECOND, u, t),
+        look_up_both(NINE_BY_FIRST, NINE_BY_SECOND, u, t),
+        u8x16::from_array(key),
+    )
+}
+
+// The last round, which has no InvMixColumns. Its result is not in the basis any more.
+#[inline(always)]
+pub(crate) fn end(x: u8x16, key: [u8; 16]) -> [u8; 16]
+    ensures { (s : List ℕ) (ws : List (List ℕ)) (n : ℕ) → IsBlock s → x ≡ undone (shift_rows (sub_bytes s))
+        → key ≡ round_key ws n → result ≡ add_round_key ws n s }
+{
+    let (u, t) = inverse(unshift_rows(x));
+    sum(
+        look_up_both(PLAIN_BY_FIRST, PLAIN_BY_SECOND, u, t),
+        u8x16::from_array(key),
+    )
+    .to_array()
+}
