@@ -3,10 +3,9 @@ use Rattle.std.proofs.Common.{◌≡◌, ◌≢◌, ℕ, zero, suc, ◌+◌, ◌
 use Rattle.std.proofs.Common.{true, false, eqb, List, [], ◌∷◌, ◌++◌, take, drop, length, replicate, refl}
 use Rattle.std.proofs.Common.{sym, ap, ap₂, ◌∙◌, subst, arith, length-append, length-drop, append_assoc}
 use Rattle.std.specs.Prelude.{Option, Some, None, MatchOption, IfSome}
-use Rattle.std.specs.List.{list_all}
 use Rattle.std.specs.Int.{bytes_high_first, from_be_bytes, w32}
-use Rattle.std.proofs.lemmas.Nat.{from_be_bytes-to_be_bytes_4}
-use Rattle.std.proofs.lemmas.Bool.{and_parts, eqb-true}
+use Rattle.std.proofs.lemmas.Nat.{from_be_bytes-to_be_bytes_4, be_bytes_4}
+use Rattle.std.proofs.lemmas.Bool.{eqb-true}
 use Rattle.std.proofs.lemmas.List.{take_at, drop_at, drop_all, append-nil, take-append-drop, take_all}
 use Rattle.std.proofs.lemmas.List.{length-replicate, length-take-le}
 use Rattle.std.proofs.Math.Seq.{take-add}
@@ -15,7 +14,7 @@ use Rattle.aes.specs.Cipher.{cipher, IsKey, IsPermutation}
 use Rattle.keywrap.specs.Wrapping.{steps}
 use Rattle.keywrap.specs.Padded.{constant, alternative_value, padded, transformed, HasPaddableLength}
 use Rattle.keywrap.specs.Padded.{HasBlocks, HasPaddedRoom, UnwrappedPadded, IsPaddedWrapping}
-use Rattle.keywrap.specs.Code.Padded.{IsStartOf}
+use Rattle.keywrap.specs.Code.Padded.{IsStartOf, IsPaddedStart, stated}
 use Rattle.keywrap.specs.Padded.{HasOnePaddedText}
 use borrow.Rule.Slice.PartMut.{put_mid}
 use Rattle.keywrap.proofs.Blocks.{length_cipher}
@@ -155,28 +154,15 @@ one_text law key k wrapped text u = (
       (start_bytes other v.bytes)) (sym v.is) u),
 )
 
--- a list whose items are all 0 is a list of zeros
-pub zeros : (xs : List ℕ) → list_all (λ b. b == 0) xs ≡ true → xs ≡ replicate (length xs) 0
-zeros [] h = refl
-zeros (x ∷ xs) h =
-    let both = and_parts (eqb x 0) (list_all (λ b. b == 0) xs) h in
-    ap₂ (λ y ys. y ∷ ys) (eqb-true x 0 both.0) (zeros xs both.1)
-
--- n zeros pass the test that all items are 0
-pub are_zeros : (n : ℕ) → list_all (λ b. b == 0) (replicate n 0) ≡ true
-are_zeros zero = refl
-are_zeros (suc n) = are_zeros n
-
 -- whole blocks that have fewer than 8 bytes after the first n, all of them 0, are those n bytes with their padding
 pub padded_by : (n : ℕ) (blocks : List ℕ) → length blocks % 8 ≡ 0 → n ≤ length blocks → length blocks < n + 8
-    → list_all (λ b. b == 0) (drop n blocks) ≡ true
+    → drop n blocks ≡ replicate (length blocks - n) 0
     → blocks ≡ padded (take n blocks)
 padded_by n blocks whole least few h =
     let long : length (take n blocks) ≡ n = length-take-le n blocks least in
-    let rest : length (drop n blocks) ≡ (8 - length (take n blocks) % 8) % 8 =
-    length-drop n blocks ∙ omega arith in
+    let rest : length blocks - n ≡ (8 - length (take n blocks) % 8) % 8 = omega arith in
     sym (take-append-drop n blocks) ∙ ap (λ z. take n blocks ++ z)
-    (zeros (drop n blocks) h ∙ ap (λ m. replicate m 0) rest)
+    (h ∙ ap (λ (m : ℕ). replicate m 0) rest)
 
 -- the transformation keeps the length of a register of 16 bytes or more, whatever the key
 made_length : (b : Bool) (key s : List ℕ) → eqb (length s) 16 ≡ b → 16 ≤ length s
@@ -243,14 +229,50 @@ no_wrapping key wrapped first rest law k b long e none (text, u) =
       blocks_are = same_back first (alternative_value (length text)) rest (padded text) long same;
     })
 
--- blocks that are a padded text have only zeros after the text
-pub zeros_past : (text blocks : List ℕ) (n : ℕ) → n ≡ length text → blocks ≡ padded text
-    → list_all (λ b. b == 0) (take (length blocks - n) (drop n blocks)) ≡ true
-zeros_past text blocks n e is =
-    let past : take (length blocks - n) (drop n blocks) ≡ replicate ((8 - length text % 8) % 8) 0 =
-    take_all (length blocks - n) (drop n blocks) (omega (arith, length-drop n blocks))
-    ∙ ap (drop n) is ∙ drop_at text (replicate ((8 - length text % 8) % 8) 0) n (sym e) in
-    ap (list_all (λ b. b == 0)) past ∙ are_zeros ((8 - length text % 8) % 8)
+-- A and the blocks of which the checks hold are the register of the text whose length A states
+pub start_of : (first blocks : List ℕ) (n : ℕ) → AreBytes 8 first → 8 ≤ length blocks
+    → length blocks % 8 ≡ 0 → n ≡ stated first → n < 2 ^ 32 → IsPaddedStart first blocks
+    → (n ≤ length blocks) × IsStartOf (take n blocks) first blocks
+start_of first blocks n b some whole is most s =
+    let least : n ≤ length blocks = omega (arith, s.least) in
+    let few : length blocks < n + 8 = omega (arith, s.few) in
+    let long : length (take n blocks) ≡ n = length-take-le n blocks least in
+    let back : AreBytes 4 (drop 4 first) = bytes_drop 4 8 first b in
+    let value : first ≡ alternative_value n =
+    sym (take-append-drop 4 first)
+    ∙ ap₂ (λ x y. x ++ y) s.constant_is (sym (be_bytes_4 (drop 4 first) n back.length_is back.bytes is)) in
+    let zeros : drop n blocks ≡ replicate (length blocks - n) 0 =
+    subst (λ (m : ℕ). drop m blocks ≡ replicate (length blocks - m) 0) (sym is) s.zeros in (
+      least,
+      record {
+        length_is = record { least = omega arith; most = omega arith };
+        first_is = value ∙ ap alternative_value (sym long);
+        blocks_are = padded_by n blocks whole least few zeros;
+      },
+    )
+
+-- of the register of a text the checks hold
+pub start_holds : (text first blocks : List ℕ) → IsStartOf text first blocks → IsPaddedStart first blocks
+start_holds text first blocks s =
+    let m : ℕ = length text in
+    let pad : ℕ = (8 - m % 8) % 8 in
+    let value : List ℕ = bytes_high_first 4 m in
+    let states : stated first ≡ m =
+    ap (λ (x : List ℕ). from_be_bytes w32 (drop 4 x)) s.first_is
+    ∙ ap (from_be_bytes w32) (drop_at constant value 4 refl)
+    ∙ from_be_bytes-to_be_bytes_4 m s.length_is.most in
+    let long : length blocks ≡ m + pad =
+    ap length s.blocks_are ∙ length-append text (replicate pad 0)
+    ∙ ap (λ n. m + n) (length-replicate pad 0) in
+    let behind : drop m blocks ≡ replicate pad 0 =
+    ap (drop m) s.blocks_are ∙ drop_at text (replicate pad 0) m refl in
+    record {
+      constant_is = ap (take 4) s.first_is ∙ take_at constant value 4 refl;
+      least = omega (arith, states, long);
+      few = omega (arith, states, long);
+      zeros = ap (λ (n : ℕ). drop n blocks) states ∙ behind
+          ∙ ap (λ (n : ℕ). replicate n 0) (omega (arith, states, long));
+    }
 
 -- the first n of eight zeros are n zeros
 pub few_zeros : (n : ℕ) → n ≤ 8 → take {A = ℕ} n (0 ∷ 0 ∷ 0 ∷ 0 ∷ 0 ∷ 0 ∷ 0 ∷ 0 ∷ []) ≡ replicate n 0

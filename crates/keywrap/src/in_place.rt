@@ -13,7 +13,6 @@ use octets::Fault;
 
 /// Wraps a text in place (RFC 3394, 2.2.1). `bytes` are eight bytes of room for A, which are overwritten, and then the text;
 /// they become its wrapping. Returns `WrapLength` if the length is under 24 or not a multiple of 8; then no byte is changed.
-/// Not constant time: see the crate's page.
 pub fn wrap_in_place(key: &AesKey, bytes: &mut [u8]) -> Result<(), Fault>
     ensures answer { MatchResult result (λ _. Unwrapped key.now bytes.new (drop 8 bytes.old))
         (WrapInPlaceRefused bytes.old) }

@@ -2,10 +2,11 @@
 //! `unwrap`, `wrap_padded` and `unwrap_padded` return a new vector. Their forms `_in_place` work in the caller's bytes, and
 //! their forms `_to` write to another output of the caller's; neither form allocates.
 //!
-//! Not constant time. Each step encrypts or decrypts a block, A and 8 bytes of the text, with `AesKey::encrypt` or
-//! `InverseKey::decrypt`. These look up tables of 4 KiB by the bytes of the cipher's state, which the wrapping key and the
-//! wrapped text determine. The checks of the unwrapped bytes may end at the first byte that differs. There is no nonce: under
-//! one key the same text has the same wrapping, so wrappings show which texts are equal.
+//! There is no nonce: under one key the same text has the same wrapping, so wrappings show which texts are equal.
+//!
+//! Each step encrypts or decrypts a block, A and 8 bytes of the text, with `AesKey::encrypt_in_registers` or
+//! `InverseKey::decrypt`. The checks of the unwrapped bytes are made all at once: no branch and no address depends on these
+//! bytes, or on the length that they state, before the one branch on whether the wrapping is valid. No proof speaks of time.
 //!
 //! From `crates/keywrap/src/uses.rt`:
 //! ```

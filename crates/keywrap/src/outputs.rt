@@ -14,7 +14,7 @@ use aes::AesKey;
 use octets::Fault;
 
 /// Wraps a text into `wrapped`, which is eight bytes longer than it (RFC 3394, 2.2.1). Returns `WrapLength` if the text is
-/// not at least two whole blocks of eight bytes; then nothing is written. Not constant time: see the crate's page.
+/// not at least two whole blocks of eight bytes; then nothing is written.
 pub fn wrap_to(key: &AesKey, text: &[u8], wrapped: &mut [u8]) -> Result<(), Fault>
     requires { length wrapped.old ≡ length text.now + 8 }
     ensures answer { MatchResult result (λ _. Unwrapped key.now wrapped.new text.now)
@@ -32,8 +32,7 @@ pub fn wrap_to(key: &AesKey, text: &[u8], wrapped: &mut [u8]) -> Result<(), Faul
 
 /// Unwraps into `text`, which is eight bytes shorter than the wrapping (RFC 3394, 2.2.2). Faults, in this order: `WrapLength`
 /// if the wrapping's length is under 24 or not a multiple of 8, `WrapIntegrity` if the bytes are not a valid wrapping under
-/// this key. On `WrapIntegrity` the whole of `text` is zeros; on `WrapLength` nothing is written. Not constant time: see the
-/// crate's page.
+/// this key. On `WrapIntegrity` the whole of `text` is zeros; on `WrapLength` nothing is written.
 pub fn unwrap_to(key: &AesKey, wrapped: &[u8], text: &mut [u8]) -> Result<(), Fault>
     requires { length wrapped.now ≡ length text.old + 8 }
     ensures answer { MatchResult result (λ _. Unwrapped key.now wrapped.now text.new)
@@ -55,8 +54,7 @@ pub fn unwrap_to(key: &AesKey, wrapped: &[u8], text: &mut [u8]) -> Result<(), Fa
 }
 
 /// Wraps a text with padding into `wrapped`, which is eight bytes longer than the padded text (RFC 5649, 4.1). Faults, in this
-/// order: `WrapLength` for an empty text, `TextTooLong` past 2^32 - 1 bytes. On a fault nothing is written. Not constant time:
-/// see the crate's page.
+/// order: `WrapLength` for an empty text, `TextTooLong` past 2^32 - 1 bytes. On a fault nothing is written.
 pub fn wrap_padded_to(key: &AesKey, text: &[u8], wrapped: &mut [u8]) -> Result<(), Fault>
     requires { length wrapped.old ≡ 8 + (length text.now + (8 - length text.now % 8) % 8) }
     ensures answer { MatchResult result (λ _. UnwrappedPadded key.now wrapped.new text.now)
@@ -81,7 +79,6 @@ pub fn wrap_padded_to(key: &AesKey, text: &[u8], wrapped: &mut [u8]) -> Result<(
 /// length: `text` becomes the text and the zeros of its padding. Faults, in this order: `WrapLength` if the wrapping's length
 /// is under 16 or not a multiple of 8, `TextTooLong` past 2^32 + 8 bytes, `WrapIntegrity` if the bytes are not a valid
 /// wrapping with padding under this key. On `WrapIntegrity` the whole of `text` is zeros; on another fault nothing is written.
-/// Not constant time: see the crate's page.
 pub fn unwrap_padded_to(key: &AesKey, wrapped: &[u8], text: &mut [u8]) -> Result<usize, Fault>
     requires { length wrapped.now ≡ length text.old + 8 }
     ensures answer { MatchResult result (λ n. UnwrappedPaddedTo key.now wrapped.now n text.new)

@@ -1,22 +1,21 @@
 //! Wrapping with padding into a new vector (RFC 5649, 4.1 and 4.2).
 
-ghost use Rattle.std.specs.Prelude.{◌≡◌, ◌≢◌, ◌<◌, ◌≤◌, ◌^◌, ◌%◌, ◌++◌, ◌↔◌, ◌==◌, ℕ, List, length, take};
+ghost use Rattle.std.specs.Prelude.{◌≡◌, ◌<◌, ◌≤◌, ◌-◌, ◌^◌, ◌%◌, ◌++◌, ◌↔◌, ℕ, List, length, take, drop};
 ghost use Rattle.std.specs.Prelude.{IsTrue, IfOk, IfSome, MatchOption, MatchResult, replicate};
-ghost use Rattle.std.specs.List.{list_all};
 ghost use Rattle.octets.specs.Bytes.{AreBytes};
 ghost use Rattle.aes.specs.Cipher.{IsKey};
-ghost use Rattle.keywrap.specs.Padded.{alternative_value, padded, transformed, HasBlocks};
-ghost use Rattle.keywrap.specs.Code.Padded.{IsStartOf};
+ghost use Rattle.keywrap.specs.Padded.{constant, alternative_value, padded, transformed, HasBlocks};
+ghost use Rattle.keywrap.specs.Code.Padded.{IsStartOf, IsPaddedStart, stated};
 ghost use Rattle.keywrap.specs.Padded.{UnwrappedPadded, IsPaddedWrapping};
 ghost use Rattle.keywrap.specs.Refusals.{PaddedWrapRefused, PaddedUnwrapRefused};
 
-use crate::steps::{first_eight, halves, join_halves, unwrap_blocks, wrap_register};
+use crate::steps::{first_eight, halves, is_valid, join_halves, unwrap_blocks, wrap_register};
 use aes::AesKey;
 use octets::{Block, Fault};
 use std::alloc::{AllocError, Allocator};
 
-// The constant of the alternative initial value (RFC 5649, 3).
-const CONSTANT: [u8; 4] = [0xa6, 0x59, 0x59, 0xa6];
+// The constant of the alternative initial value as a number, the first byte most significant (RFC 5649, 3).
+const CONSTANT: u32 = 0xa659_59a6;
 
 // The register as a block, if it is one block long.
 fn only_block(bytes: &[u8]) -> Block
@@ -35,7 +34,7 @@ pub(crate) fn encrypt_register(key: &AesKey, bytes: &mut [u8])
     ensures { bytes.new ≡ transformed key.now bytes.old }
 {
     if bytes.len() == 16 {
-        bytes.copy_from_slice(key.encrypt(&only_block(bytes)).bytes());
+        bytes.copy_from_slice(key.encrypt_in_registers(&only_block(bytes)).bytes());
     } else {
         wrap_register(key, bytes);
     }
@@ -60,39 +59,78 @@ fn decrypt_register(key: &AesKey, first: &mut [u8; 8], blocks: &mut [u8])
     }
 }
 
-// The length in an alternative initial value, or `None` if `first` is not one.
-fn stated_length(first: &[u8; 8]) -> Option<u32>
-    ensures { MatchOption result ((n : ℕ) → n < 2 ^ 32 → first.now ≢ alternative_value n)
-        (λ n. (n < 2 ^ 32) × (first.now ≡ alternative_value n)) }
+// The length that A states, if it is an alternative initial value: its last four bytes (RFC 5649, 3).
+fn stated_length(first: &[u8; 8]) -> u32
+    ensures { result ≡ stated first.now }
+{
+    let mut length = [0; 4];
+    length.copy_from_slice(&first[4..]);
+    u32::from_be_bytes(length)
+}
+
+// A number that is 0 exactly if A begins with the constant of an alternative initial value (RFC 5649, 3, check 1).
+fn constant_difference(first: &[u8; 8]) -> u32
+    ensures { (result ≡ 0) ↔ (take 4 first.now ≡ constant) }
 {
     let mut constant = [0; 4];
-    let mut length = [0; 4];
     constant.copy_from_slice(&first[..4]);
-    length.copy_from_slice(&first[4..]);
-    if constant == CONSTANT {
-        Some(u32::from_be_bytes(length))
-    } else {
-        None
-    }
+    u32::from_be_bytes(constant).wrapping_sub(CONSTANT)
 }
 
-// Whether all bytes are zero.
-fn are_zero(bytes: &[u8]) -> bool
-    ensures { result ≡ list_all (λ b. b == 0) bytes.now }
+// The last eight bytes.
+fn last_eight(blocks: &[u8]) -> [u8; 8]
+    requires { 8 ≤ length blocks.now }
+    ensures { result ≡ drop (length blocks.now - 8) blocks.now }
 {
-    bytes.iter().all(|b| *b == 0)
+    let mut last = [0; 8];
+    last.copy_from_slice(&blocks[blocks.len() - 8..]);
+    last
 }
 
-// The length of the text of which A and the blocks are the register, or `None` if there is none.
+// The last `count` of eight bytes as a number, the first one least significant, if `count` is under 8. The bytes before them
+// are shifted out, so that no branch and no address depends on `count`.
+fn last_number(last: &[u8; 8], count: u64) -> u64
+    ensures none { count < 8 → (result ≡ 0) ↔ (drop (8 - count) last.now ≡ replicate count 0) }
+    ensures small { result < 2 ^ 56 }
+{
+    let number = u64::from_le_bytes(*last) >> 8;
+    number >> (8 * (7 - count % 8))
+}
+
+// How many bytes come after the first n, the length that A states: at least 2^63 if there are fewer than n. The subtraction wraps, so
+// that there is no branch.
+fn count_behind(first: &[u8; 8], blocks: &[u8]) -> u64
+    ensures least { result < 8 → stated first.now ≤ length blocks.now }
+    ensures count { stated first.now ≤ length blocks.now → result ≡ length blocks.now - stated first.now }
+{
+    (blocks.len() as u64).wrapping_sub(u64::from(stated_length(first)))
+}
+
+// A number that is 0 exactly if A and the blocks are the register of the text whose length A states (RFC 5649, 3). Three numbers
+// are added, each of which is 0 if one of the standard's checks holds: the constant is right; the stated length n is at most
+// the length of the blocks, and less than eight bytes shorter; the bytes after the first n are zeros, all of which are among
+// the last eight bytes. No check ends early, and none reads at a place that n chooses: n is not authenticated yet. The sum is
+// below 2^64.
+fn difference(first: &[u8; 8], blocks: &[u8]) -> u64
+    requires { 8 ≤ length blocks.now }
+    ensures { (result ≡ 0) ↔ IsPaddedStart first.now blocks.now }
+{
+    let constant = constant_difference(first);
+    let count = count_behind(first, blocks);
+    let number = last_number(&last_eight(blocks), count);
+    u64::from(constant) + count / 8 + number
+}
+
+// The length of the text of which A and the blocks are the register, or `None` if there is none. The length is used only if there
+// is such a text: then it is public, as it is the length of what the caller is given.
 fn text_length(first: &[u8; 8], blocks: &[u8]) -> Option<usize>
     requires least { 8 ≤ length blocks.now }
     requires whole { length blocks.now % 8 ≡ 0 }
     ensures { MatchOption result ((text : List ℕ) → ¬ IsStartOf text first.now blocks.now)
         (λ n. (n ≤ length blocks.now) × IsStartOf (take n blocks.now) first.now blocks.now) }
 {
-    let length = stated_length(first)? as usize;
-    if length <= blocks.len() && blocks.len() < length + 8 && are_zero(&blocks[length..]) {
-        Some(length)
+    if is_valid(difference(first, blocks)) {
+        Some(stated_length(first) as usize)
     } else {
         None
     }
@@ -122,7 +160,7 @@ pub(crate) fn alternative_value(n: u32) -> [u8; 8]
     ensures { result ≡ alternative_value n }
 {
     let mut value = [0; 8];
-    value[..4].copy_from_slice(&CONSTANT);
+    value[..4].copy_from_slice(&CONSTANT.to_be_bytes());
     value[4..].copy_from_slice(&n.to_be_bytes());
     value
 }
@@ -149,7 +187,7 @@ pub(crate) fn has_blocks(bytes: &[u8]) -> bool
 
 /// Returns the wrapping of a text with padding, eight bytes longer than the padded text (RFC 5649, 4.1).
 /// Faults, in this order: `WrapLength` for an empty text, `TextTooLong` past 2^32 - 1 bytes, `OutOfMemory`
-/// if the allocation of the result fails. Not constant time: see the crate's page.
+/// if the allocation of the result fails.
 pub fn wrap_padded<A: Allocator>(alloc: A, key: &AesKey, text: &[u8]) -> Result<Vec<u8, A>, Fault>
     ensures { MatchResult result
         (λ v. UnwrappedPadded key.now v.items text.now) (PaddedWrapRefused text.now) }
@@ -167,7 +205,7 @@ pub fn wrap_padded<A: Allocator>(alloc: A, key: &AesKey, text: &[u8]) -> Result<
 
 /// Returns the text of a wrapping with padding (RFC 5649, 4.2). Faults, in this order: `WrapLength` if the length is under 16
 /// or not a multiple of 8, `TextTooLong` past 2^32 + 8 bytes, `OutOfMemory` if the allocation of the padded text fails,
-/// `WrapIntegrity` if the bytes are not a valid wrapping with padding under this key. Not constant time: see the crate's page.
+/// `WrapIntegrity` if the bytes are not a valid wrapping with padding under this key.
 pub fn unwrap_padded<A: Allocator>(
     alloc: A,
     key: &AesKey,

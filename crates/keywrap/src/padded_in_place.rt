@@ -24,7 +24,7 @@ fn has_padded_room(bytes: &[u8], text_length: usize) -> bool
 /// Wraps a text with padding in place (RFC 5649, 4.1). `bytes` are eight bytes of room for A, the text of `text_length` bytes,
 /// and the fewest bytes of room that make the length a multiple of 8; they become the wrapping. The room is overwritten.
 /// Faults, in this order: `WrapLength` if the text is empty or the room has another length, `TextTooLong` if the text is longer
-/// than 2^32 - 1 bytes. On a fault no byte is changed. Not constant time: see the crate's page.
+/// than 2^32 - 1 bytes. On a fault no byte is changed.
 pub fn wrap_padded_in_place(key: &AesKey, bytes: &mut [u8], text_length: usize) -> Result<(), Fault>
     ensures answer { MatchResult result
         (λ _. WrappedPaddedInPlace key.now bytes.old text_length bytes.new)
@@ -47,8 +47,7 @@ pub fn wrap_padded_in_place(key: &AesKey, bytes: &mut [u8], text_length: usize) 
 /// Unwraps with padding in place (RFC 5649, 4.2), and returns the text's length. `bytes` are a wrapping; they become the
 /// alternative initial value, the text, which begins at offset 8, and the zeros of its padding. Faults, in this order:
 /// `WrapLength` if the length is under 16 or not a multiple of 8, `TextTooLong` if it is more than 2^32 + 8, `WrapIntegrity` if
-/// the bytes are not a valid wrapping with padding under this key. On a fault the bytes are as they were. Not constant time:
-/// see the crate's page.
+/// the bytes are not a valid wrapping with padding under this key. On a fault the bytes are as they were.
 pub fn unwrap_padded_in_place(key: &AesKey, bytes: &mut [u8]) -> Result<usize, Fault>
     ensures answer { MatchResult result (λ n. UnwrappedPaddedInPlace key.now bytes.old n bytes.new)
         (PaddedUnwrapToRefused key.now bytes.old) }

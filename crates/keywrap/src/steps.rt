@@ -15,6 +15,9 @@ use octets::{Block, xor_into};
 // The default initial value (RFC 3394, 2.2.3.1).
 pub(crate) const INITIAL_VALUE: [u8; 8] = [0xa6; 8];
 
+// The default initial value as a number.
+const INITIAL_NUMBER: u64 = 0xa6a6_a6a6_a6a6_a6a6;
+
 // Whether the length is that of a wrapping.
 pub(crate) fn has_wrapped_length(bytes: &[u8]) -> bool
     ensures { IsTrue result ↔ HasWrappedLength bytes.now }
@@ -22,11 +25,20 @@ pub(crate) fn has_wrapped_length(bytes: &[u8]) -> bool
     bytes.len() >= 24 && bytes.len() % 8 == 0
 }
 
-// Whether A is the default initial value.
+// Whether the checks of an unwrapped register hold, all at once. The answer is public: it is whether the bytes were a valid
+// wrapping, which the caller is told.
+pub(crate) fn is_valid(difference: u64) -> bool
+    ensures { IsTrue result ↔ (difference ≡ 0) }
+{
+    difference == 0
+}
+
+// Whether A is the default initial value. All eight bytes are compared at once, as one number, so that the time doesn't tell how
+// many are right.
 pub(crate) fn is_initial_value(first: &[u8; 8]) -> bool
     ensures { IsTrue result ↔ (first.now ≡ initial_value) }
 {
-    *first == INITIAL_VALUE
+    is_valid(u64::from_be_bytes(*first).wrapping_sub(INITIAL_NUMBER))
 }
 
 // The first eight bytes.
@@ -79,7 +91,7 @@ fn wrap_step(key: &AesKey, t: u64, place: usize, first: &mut [u8; 8], blocks: &m
         ≡ step key.now t (register place first.old blocks.old) }
 {
     let block = join_halves(first, &blocks[place..place + 8]);
-    let (half, second) = halves(key.encrypt(&Block::new(block)).bytes());
+    let (half, second) = halves(key.encrypt_in_registers(&Block::new(block)).bytes());
     *first = xor_number(&half, t);
     blocks[place..place + 8].copy_from_slice(&second);
 }

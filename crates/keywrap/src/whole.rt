@@ -13,7 +13,7 @@ use std::alloc::Allocator;
 
 /// Returns the wrapping of a text, eight bytes longer than it (RFC 3394, 2.2.1). Faults, in this order: `WrapLength` if the
 /// text is not at least two whole blocks of eight bytes, `OutOfMemory` if the allocation of the result fails. A result too long
-/// for a vector would be `TextTooLong`, but no slice is that long. Not constant time: see the crate's page.
+/// for a vector would be `TextTooLong`, but no slice is that long.
 pub fn wrap<A: Allocator>(alloc: A, key: &AesKey, text: &[u8]) -> Result<Vec<u8, A>, Fault>
     ensures { MatchResult result (λ v. Unwrapped key.now v.items text.now) (WrapRefused usize.MAX text.now) }
 {
@@ -29,7 +29,7 @@ pub fn wrap<A: Allocator>(alloc: A, key: &AesKey, text: &[u8]) -> Result<Vec<u8,
 
 /// Returns the text of a wrapping, eight bytes shorter than it (RFC 3394, 2.2.2). Faults, in this order: `WrapLength` if the
 /// length is under 24 or not a multiple of 8, `OutOfMemory` if the allocation of the text fails, `WrapIntegrity` if the bytes
-/// are not a valid wrapping under this key. Not constant time: see the crate's page.
+/// are not a valid wrapping under this key.
 pub fn unwrap<A: Allocator>(alloc: A, key: &AesKey, wrapped: &[u8]) -> Result<Vec<u8, A>, Fault>
     ensures answer { MatchResult result (λ v. Unwrapped key.now wrapped.now v.items)
         (UnwrapRefused key.now wrapped.now) }

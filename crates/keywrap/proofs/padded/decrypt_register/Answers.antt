@@ -1,4 +1,7 @@
-use Rattle.std.proofs.Common.{◌≡◌, ◌≢◌, ◌+◌, ◌-◌, ◌*◌, ◌/◌, ◌++◌, List, ℕ, length, ap, ap₂, ◌∙◌, arith}
+use Rattle.std.proofs.Common.{◌≡◌, ◌≢◌, ◌+◌, ◌-◌, ◌*◌, ◌/◌, ◌++◌, List, ℕ, length, ap, ap₂, ◌∙◌, arith, refl, sym}
+use Rattle.std.proofs.Common.{◌<◌, take, get_or, subst}
+use Rattle.octets.specs.Bytes.{AreBytes}
+use Rattle.keywrap.proofs.Bytes.{bytes_take}
 use Rattle.std.proofs.Common.{length-append}
 use Rattle.std.proofs.lemmas.List.{take-append-drop}
 use Rattle.aes.specs.Cipher.{cipher}
@@ -30,3 +33,13 @@ returns-else-blocks-eq8-clause-undone c =
 
 pub returns-then-blocks-eq8-clause-key : goal.returns-then-blocks-eq8-clause-key
 returns-then-blocks-eq8-clause-key c = c.inverse.ensures.is_key
+
+pub returns-then-blocks-eq8-clause-first : goal.returns-then-blocks-eq8-clause-first
+returns-then-blocks-eq8-clause-first c =
+    let cut : AreBytes 8 (take 8 c.decrypt.result) =
+    bytes_take 8 16 c.decrypt.result (omega arith) c.decrypt.ensures.is_block in
+    let same : c.halves.result.0 ≡ take 8 c.decrypt.result = c.halves.ensures.first ∙ ap (take 8) c.bytes.ensures.value in
+    record {
+      length_is = refl;
+      bytes = λ i. subst (λ x. get_or x i 0 < 256) (sym same) (cut.bytes i);
+    }

@@ -15,7 +15,7 @@ returns c =
     let numbered : c.xor_number.result ≡ xor_bytes (take 8 b) (bytes_high_first 8 c.args.t) =
     c.xor_number.ensures ∙ ap (λ x. xor_bytes x (bytes_high_first 8 c.args.t)) c.halves.ensures.first in
     let taken : b ≡ cipher c.args.key.now (c.args.first.now ++ take (p + 8 - p) (drop p c.args.blocks.now)) =
-    c.bytes.ensures.value ∙ c.encrypt.ensures.value
+    c.bytes.ensures.value ∙ c.encrypt_in_registers.ensures.value
     ∙ ap (cipher c.args.key.now) (c.new.ensures.value ∙ c.join_halves-block.ensures) in
     ap (λ x. register (p + 8) x (put_mid p (p + 8 - p) c.args.blocks.now c.copy_from_slice.new.self)) numbered
     ∙ wrapped_at c.args.key.now c.args.t p (p + 8 - p) c.args.first.now c.args.blocks.now b
