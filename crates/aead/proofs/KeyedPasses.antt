@@ -1,5 +1,5 @@
 -- Facts about the key and the nonce of a message, and about the bytes of it that are authenticated.
-use Rattle.std.proofs.Common.{◌≡◌, ℕ, ◌-◌, ◌^◌, ◌≤◌, List, length, take, refl, sym, ap, subst, ◌∙◌, arith}
+use Rattle.std.proofs.Common.{◌≡◌, ℕ, ◌-◌, ◌^◌, ◌≤◌, List, length, take, drop, replicate, refl, sym, ap, subst, ◌∙◌, arith}
 use Rattle.std.proofs.Common.{◌⊎◌, inl, inr, ap₂, true, true≢false}
 use Rattle.std.proofs.lemmas.List.{take_all}
 use Rattle.octets.specs.Masked.{masked}
@@ -34,10 +34,12 @@ chacha_key_length Aes256GcmSiv e = refl
 -- if p has the key that the cipher uses, filled up with zeros, and the nonce of a message, p has the keys of that message
 pub has_keys : (p : KeyAndNonce) (s : Setting) (key : List ℕ) → key ≡ cipher_key (construction_of s.suite) s
     → length key ≡ key_length s.suite → length s.key ≡ key_length s.suite → length s.nonce ≡ 12
-    → take (length key) p.key ≡ key → p.nonce ≡ s.nonce → HasKeys p s
-has_keys p s key is long key_fits nonce_fits padded nonce = record {
+    → take (length key) p.key ≡ key → drop (length key) p.key ≡ replicate (32 - length key) 0 → p.nonce ≡ s.nonce
+    → HasKeys p s
+has_keys p s key is long key_fits nonce_fits first padded nonce = record {
   lengths = record { key_fits = key_fits; nonce_fits = nonce_fits };
-  key_is = ap (λ (n : ℕ). take n p.key) (sym long) ∙ padded ∙ is;
+  key_is = ap (λ (n : ℕ). take n p.key) (sym long) ∙ first ∙ is;
+  padded = subst (λ (n : ℕ). drop n p.key ≡ replicate (32 - n) 0) long padded;
   nonce_is = nonce;
 }
 
@@ -53,6 +55,7 @@ pub has_keys_with : (p : KeyAndNonce) (s : Setting) (aad : List ℕ) → HasKeys
 has_keys_with p s aad h = record {
   lengths = record { key_fits = h.lengths.key_fits; nonce_fits = h.lengths.nonce_fits };
   key_is = h.key_is ∙ same_cipher_key (construction_of s.suite) s aad;
+  padded = h.padded;
   nonce_is = h.nonce_is;
 }
 

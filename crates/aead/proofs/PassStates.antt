@@ -12,5 +12,5 @@ use Rattle.aead.specs.PassStates.{IsSumOf}
 pub no_sum : (by : Construction) (s : Setting) → IsSumOf by 0 0 s []
 unfolding block_sum sum_below
 no_sum ByChaCha s = refl
-no_sum ByGcm s = λ k serves. block_sum_none Straight k []
-no_sum ByGcmSiv s = ∣ (λ k serves. block_sum_none Reversed k []) ∣₁
+no_sum ByGcm s = (λ k serves. block_sum_none Straight k [], refl)
+no_sum ByGcmSiv s = (∣ (λ k serves. block_sum_none Reversed k []) ∣₁, refl)

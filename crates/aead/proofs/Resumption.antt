@@ -1,6 +1,8 @@
 -- Facts about stored numbers with which a pass is resumed.
-use Rattle.std.proofs.Common.{◌≡◌, ◌≤◌, ℕ, ◌++◌, ◌∙◌, List, [], ◌∷◌, length, take, drop, sym, ap₂, subst, arith}
-use Rattle.std.proofs.lemmas.List.{take-append-drop}
+use Rattle.std.proofs.Common.{◌≡◌, ◌≤◌, ◌<◌, ℕ, ◌++◌, ◌∙◌, List, [], ◌∷◌, length, take, drop, get_or, sym, ap₂, subst, arith}
+use Rattle.std.proofs.Common.{inl, inr}
+use Rattle.std.proofs.lemmas.Bool.{cases_lt}
+use Rattle.std.proofs.lemmas.List.{take-append-drop, length-take-le, get_or-take, get_or_past}
 use Rattle.octets.specs.Bytes.{IsBlock}
 use Rattle.octets.specs.Bits.{g}
 use Rattle.octets.specs.declared.fault.Fault.{Fault}
@@ -22,8 +24,18 @@ one_reversed : (h k l : List ℕ) → IsBlock k → IsBlock l → Serves Reverse
 unfolding IsMulX
 one_reversed h k l kb lb sk sl = g_injective 16 k l kb lb (sl.1.1 (g k) sk.1.0)
 
+-- the first 16 of 32 bytes are a block
+pub first_block : (k : List ℕ) → length k ≡ 32 → ((i : ℕ) → get_or k i 0 < 256) → IsBlock (take 16 k)
+first_block k long small = record {
+  length_is = length-take-le 16 k (omega (arith, long));
+  bytes = λ i. elim (cases_lt i 16) [
+    | inl l ↦ rw (get_or-take 16 k i 0 l) (small i)
+    | inr g ↦ rw (get_or_past (take 16 k) i 0 (omega (arith, g, length-take-le 16 k (omega (arith, long))))) (omega arith)
+  ];
+}
+
 -- two lists with equal first 16 items and equal other items are equal
-pub halves : (k l : List ℕ) → take 16 k ≡ take 16 l → drop 16 k ≡ drop 16 l → k ≡ l
+halves : (k l : List ℕ) → take 16 k ≡ take 16 l → drop 16 k ≡ drop 16 l → k ≡ l
 halves k l t d =
     sym (take-append-drop 16 k) ∙ ap₂ (λ (x y : List ℕ). x ++ y) t d ∙ take-append-drop 16 l
 

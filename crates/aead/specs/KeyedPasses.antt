@@ -1,5 +1,5 @@
 -- The key and the nonce of a message, as plain numbers.
-use Rattle.std.specs.Prelude.{◌≡◌, ℕ, ◌≤◌, List, [], ◌∷◌, length, take, replicate}
+use Rattle.std.specs.Prelude.{◌≡◌, ℕ, ◌-◌, ◌≤◌, List, [], ◌∷◌, length, take, drop, replicate}
 use Rattle.octets.specs.Masked.{masked}
 use Rattle.aes.specs.declared.counter.KnownBlock.{KnownBlock}
 use Rattle.aes.specs.Code.Streams.{KnowsCipher}
@@ -46,10 +46,11 @@ KnowsCipherOf b s = KnowsCipher b (cipher_key (construction_of s.suite) s)
 abbrev pub zero_keys : KeyAndNonce
 zero_keys = record { key = replicate 32 0; nonce = replicate 12 0 }
 
--- p holds the key that the cipher of a message uses, and the nonce of the message
+-- p holds the key that the cipher of a message uses, with zeros after it, and the nonce of the message
 pub record HasKeys (p : KeyAndNonce) (s : Setting) : Type 0 where
   pub lengths : HasLengths s
   pub key_is : take (key_length s.suite) p.key ≡ cipher_key (construction_of s.suite) s
+  pub padded : drop (key_length s.suite) p.key ≡ replicate (32 - key_length s.suite) 0
   pub nonce_is : p.nonce ≡ s.nonce
 
 -- the bytes of a ciphertext that are authenticated: the ciphertext itself, or for AES-GCM-SIV the text that the mask gives

@@ -4,6 +4,7 @@ use Rattle.octets.specs.declared.fault.Fault.{Fault}
 use Rattle.aead.specs.declared.keyed_sealer.KeyedSealer.{KeyedSealer}
 use Rattle.aead.specs.declared.keyed_siv.KeyedSiv.{KeyedSiv}
 use Rattle.aead.specs.declared.keyed_opener.KeyedOpener.{KeyedOpener}
+use Rattle.aead.specs.declared.pass_state.PassState.{PassState}
 use Rattle.aead.specs.declared.two_pass_state.TwoPassState.{TwoPassState}
 use Rattle.aead.specs.Suites.{ByGcmSiv, construction_of, is_one_pass}
 use Rattle.aead.specs.Sealing.{Setting}
@@ -25,6 +26,10 @@ zero_sealer = record { keys = zero_keys; state = zero_state }
 -- how many bytes of the text the sealing has counted
 abbrev pub sealer_count : KeyedSealer → ℕ
 sealer_count p = p.state.length
+
+-- the state of the sealing, without its key and nonce
+abbrev pub sealer_state : KeyedSealer → PassState
+sealer_state p = p.state
 
 -- p has the keys of a message in one reading, and has taken in this text
 pub record HoldsKeyedText (p : KeyedSealer) (s : Setting) (text : List ℕ) : Type 0 where
@@ -48,6 +53,14 @@ zero_siv = record { keys = zero_keys; state = zero_passes }
 abbrev pub siv_count : KeyedSiv → ℕ
 siv_count p = p.state.pass.length
 
+-- the state of the sealing, without its key and nonce
+abbrev pub siv_state : KeyedSiv → TwoPassState
+siv_state p = p.state
+
+-- how many bytes the first reading counted, in the second reading; 0 in the first
+abbrev pub siv_first : KeyedSiv → ℕ
+siv_first p = p.state.first
+
 -- p is in the first reading of a message and has taken in this text
 pub record HoldsFirstReading (p : KeyedSiv) (s : Setting) (text : List ℕ) : Type 0 where
   pub by_gcm_siv : construction_of s.suite ≡ ByGcmSiv
@@ -69,6 +82,14 @@ zero_opener = record { keys = zero_keys; state = zero_passes }
 -- how many bytes the current pass has counted
 abbrev pub opener_count : KeyedOpener → ℕ
 opener_count p = p.state.pass.length
+
+-- the state of the opening, without its key and nonce
+abbrev pub opener_state : KeyedOpener → TwoPassState
+opener_state p = p.state
+
+-- how many bytes the first pass counted, in the second pass; 0 in the first
+abbrev pub opener_first : KeyedOpener → ℕ
+opener_first p = p.state.first
 
 -- p is in the first pass of an opening under this tag and has taken in these bytes of the ciphertext
 pub record HoldsFirstPass (p : KeyedOpener) (s : Setting) (tag body : List ℕ) : Type 0 where

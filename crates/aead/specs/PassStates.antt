@@ -1,5 +1,5 @@
 -- The state of a pass over a message, as plain numbers.
-use Rattle.std.specs.Prelude.{◌≡◌, ℕ, ◌+◌, ◌*◌, ◌/◌, ◌%◌, ◌^◌, List, ◌++◌, length, take, drop, replicate}
+use Rattle.std.specs.Prelude.{◌≡◌, ℕ, ◌+◌, ◌-◌, ◌*◌, ◌/◌, ◌%◌, ◌^◌, List, ◌++◌, length, take, drop, replicate}
 use Rattle.octets.specs.Bytes.{pad16}
 use Rattle.octets.specs.Masked.{masked}
 use Rattle.poly1305.specs.Code.States as poly1305
@@ -18,18 +18,21 @@ IsHashKey ByChaCha k s = k ≡ poly_key s.key s.nonce
 IsHashKey ByGcm k s = (take 16 k ≡ hash_key s.key) × (drop 16 k ≡ cipher s.key (j0 s.nonce))
 IsHashKey ByGcmSiv k s = Serves Reversed (authentication_key s.key s.nonce) (take 16 k) × (drop 16 k ≡ replicate 16 0)
 
--- low and high are the sum of the hash over the whole blocks of m. For POLYVAL only the fact is stated (`∥ .. ∥₁`).
+-- low and high are the sum of the hash over the whole blocks of m: 128 bits, and the bits above them, of which GHASH and POLYVAL
+-- have none. For POLYVAL only the fact is stated (`∥ .. ∥₁`).
 abbrev pub IsSumOf : Construction → (low high : ℕ) → Setting → List ℕ → Type 0
 IsSumOf ByChaCha low high s m = poly1305.IsSum (poly_key s.key s.nonce) m low high
-IsSumOf ByGcm low high s m = gf128.IsSum Straight (hash_key s.key) m low
-IsSumOf ByGcmSiv low high s m = ∥ gf128.IsSum Reversed (authentication_key s.key s.nonce) m low ∥₁
+IsSumOf ByGcm low high s m = gf128.IsSum Straight (hash_key s.key) m low × (high ≡ 0)
+IsSumOf ByGcmSiv low high s m = ∥ gf128.IsSum Reversed (authentication_key s.key s.nonce) m low ∥₁ × (high ≡ 0)
 
--- the numbers are the state after the associated data and these bytes
+-- the numbers are the state after the associated data and these bytes: those after the last whole block, with zeros after them,
+-- and the sum over the blocks
 pub record HoldsNumbers (n : PassState) (s : Setting) (bytes : List ℕ) : Type 0 where
   pub hash_key_is : IsHashKey (construction_of s.suite) n.hash_key s
   pub sum_is : IsSumOf (construction_of s.suite) (n.low + n.middle * 2 ^ 64) n.high s (pad16 s.aad ++ bytes)
   pub rest_is :
       take (n.length % 16) n.rest ≡ drop (length (pad16 s.aad ++ bytes) / 16 * 16) (pad16 s.aad ++ bytes)
+  pub padded : drop (n.length % 16) n.rest ≡ replicate (16 - n.length % 16) 0
   pub aad_length_is : n.aad_length ≡ length s.aad
   pub length_is : n.length ≡ length bytes
   pub fits : Fits s bytes

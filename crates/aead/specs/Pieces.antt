@@ -1,5 +1,5 @@
 -- The state of a sealing or an opening in pieces, in terms of the bytes that it has taken in.
-use Rattle.std.specs.Prelude.{◌≡◌, ℕ, ◌<◌, ◌≤◌, true, List, ◌++◌, length, get_or}
+use Rattle.std.specs.Prelude.{◌≡◌, ℕ, ◌<◌, ◌≤◌, min, true, List, ◌++◌, length, get_or, replicate}
 use Rattle.octets.specs.Masked.{masked}
 use Rattle.gf128.specs.Orders.{Reversed, Serves}
 use Rattle.gf128.specs.Code.States.{key_of}
@@ -13,11 +13,11 @@ use Rattle.aead.specs.declared.siv.SivAbsorb.{SivAbsorb}
 use Rattle.aead.specs.declared.siv.SivWriter.{SivWriter}
 use Rattle.aead.specs.declared.siv_keys.SivKeys.{SivKeys}
 use Rattle.aead.specs.declared.two_pass_state.TwoPassState.{TwoPassState}
-use Rattle.aead.specs.Suites.{ByGcmSiv, construction_of, is_one_pass, text_limit}
+use Rattle.aead.specs.Suites.{Construction, ByGcmSiv, construction_of, is_one_pass, text_limit, text_limit_by}
 use Rattle.aead.specs.Sealing.{Setting, Opened, authentication_key, encryption_key, mask_of, tag_of, sealing}
 use Rattle.aead.specs.PassStates.{HoldsNumbers, HoldsState, IsStart}
 use Rattle.aead.specs.KeyedPasses.{HasKeys, KnowsCipherOf, authenticated_by}
-use Rattle.aead.specs.Code.MessageKeys.{AreKeysOf}
+use Rattle.aead.specs.Code.MessageKeys.{construction_by, AreKeysOf}
 
 -- the sealer has the keys of a message and has taken in this text
 pub record HoldsSealer (sealer : Sealer) (s : Setting) (text : List ℕ) : Type 0 where
@@ -38,6 +38,8 @@ pub record AreKeys (k : SivKeys) (s : Setting) : Type 0 where
 pub record IsInFirstReading (n : TwoPassState) (s : Setting) (text : List ℕ) : Type 0 where
   pub pass : HoldsNumbers n.pass s text
   pub start : IsStart n.start s
+  pub tag_is : n.tag ≡ replicate 16 0
+  pub first_is : n.first ≡ 0
 
 -- n is the state of a second reading that has taken in this text, after a first reading of another text, which is no shorter
 pub record IsInSecondReading (n : TwoPassState) (s : Setting) (first text : List ℕ) : Type 0 where
@@ -59,6 +61,14 @@ pub record HoldsWriter (w : SivWriter) (s : Setting) (first text : List ℕ) : T
   pub state : IsInSecondReading w.state s first text
   pub known : KnowsCipherOf w.known s
 
+-- how many bytes the second reading has counted
+abbrev pub siv_writer_count : SivWriter → ℕ
+siv_writer_count w = w.state.pass.length
+
+-- how many bytes the second reading may count: as many as the first reading counted, and no more than the suite's limit
+abbrev pub siv_writer_limit : SivWriter → ℕ
+siv_writer_limit w = min w.state.first (text_limit_by ByGcmSiv)
+
 -- ---- an opening in two passes
 
 -- the ciphertext and the tag are the sealing of the text that the ciphertext decrypts to
@@ -73,17 +83,22 @@ WasOverASealing s tag first = (body : List ℕ) × (length body ≡ first) × Op
 abbrev pub HasTakenIn : PassState → Setting → (tag body : List ℕ) → Type 0
 HasTakenIn n s tag body = HoldsNumbers n s (authenticated_by (construction_of s.suite) (mask_of s tag) body)
 
--- n is the state of a first pass that has taken in these bytes of a ciphertext under this tag
-pub record IsInFirstPass (n : TwoPassState) (s : Setting) (tag body : List ℕ) : Type 0 where
+-- n is the state of a first or second pass that has taken in these bytes of a ciphertext under this tag
+pub record IsInPass (n : TwoPassState) (s : Setting) (tag body : List ℕ) : Type 0 where
   pub pass : HasTakenIn n.pass s tag body
   pub start : IsStart n.start s
   pub tag_is : n.tag ≡ tag
   pub tag_long : length tag ≡ 16
   pub small : (i : ℕ) → get_or body i 0 < 256
 
+-- n is the state of a first pass that has taken in these bytes
+pub record IsInFirstPass (n : TwoPassState) (s : Setting) (tag body : List ℕ) : Type 0 where
+  pub pass : IsInPass n s tag body
+  pub first_is : n.first ≡ 0
+
 -- n is the state of a second pass that has taken in these bytes; the first pass was over `first` bytes, a valid sealing
 pub record IsInSecondPass (n : TwoPassState) (s : Setting) (tag : List ℕ) (first : ℕ) (body : List ℕ) : Type 0 where
-  pub pass : IsInFirstPass n s tag body
+  pub pass : IsInPass n s tag body
   pub first_is : n.first ≡ first
   pub first_fits : first ≤ text_limit s.suite
   pub within : length body ≤ first
@@ -98,6 +113,11 @@ abbrev pub OpensUnder : OpenerKeys → Setting → Type 0
 OpensUnder (OnePass k) s = AreKeysOf k s
 OpensUnder (Siv k) s = (k.suite ≡ s.suite) × HasKeys k.own s
 
+-- the construction that the keys of an opening are for
+abbrev pub construction_under : OpenerKeys → Construction
+construction_under (OnePass k) = construction_by k.cipher
+construction_under (Siv k) = construction_of k.suite
+
 -- the first pass has the keys of a message and has taken in these bytes of a ciphertext under this tag
 pub record HoldsOpener (o : Opener) (s : Setting) (tag body : List ℕ) : Type 0 where
   pub keys : OpensUnder o.keys s
@@ -110,6 +130,14 @@ pub record HoldsOpenWriter (w : OpenWriter) (s : Setting) (tag : List ℕ) (firs
   pub bytes : MasksByBytes s
   pub state : IsInSecondPass w.state s tag first body
   pub known : KnowsCipherOf w.known s
+
+-- how many bytes the second pass has counted
+abbrev pub open_writer_count : OpenWriter → ℕ
+open_writer_count w = w.state.pass.length
+
+-- how many bytes the second pass may count: as many as the first pass counted, and no more than the suite's limit
+abbrev pub open_writer_limit : OpenWriter → ℕ
+open_writer_limit w = min w.state.first (text_limit_by (construction_under w.keys))
 
 -- ---- pieces that are joined
 

@@ -22,8 +22,7 @@ use crate::suite::Suite;
 use aes::AesKey;
 use octets::{Fault, Key32, Nonce, Tag};
 
-/// A cipher of a suite whose tag is over the ciphertext, so that one reading of a text seals it. Under AES-GCM it is not
-/// constant time: [`Gcm`] says which tables are indexed by secret bytes.
+/// A cipher of a suite whose tag is over the ciphertext, so that one reading of a text seals it.
 #[derive(Drop)]
 pub enum AnyOnePass {
     /// ChaCha20-Poly1305.
@@ -32,8 +31,7 @@ pub enum AnyOnePass {
     Gcm(Gcm),
 }
 
-/// A cipher of any suite. Under the suites of AES it is not constant time: [`Gcm`] and [`GcmSiv`] say which tables are
-/// indexed by secret bytes.
+/// A cipher of any suite.
 #[derive(Drop)]
 pub enum AnyAead {
     /// ChaCha20-Poly1305 or AES-GCM, whose tag is over the ciphertext.

@@ -91,7 +91,7 @@ impl<'a> KeyParts<'a> {
 fn key_part(key: &AesKey, nonce: &Nonce, i: u32) -> [u8; 8]
     ensures { result ≡ key_part key.now nonce.now i }
 {
-    let block = key.encrypt(&Block::new(numbered(i, nonce.bytes())));
+    let block = key.encrypt_in_registers(&Block::new(numbered(i, nonce.bytes())));
     first_half(block.bytes())
 }
 

@@ -25,11 +25,6 @@ use std::marker::Model;
 
 /// AES-GCM under a key of 16, 24 or 32 bytes (SP 800-38D). Opening in place authenticates before it
 /// changes a byte. Contracts see its suite and key.
-///
-/// Not constant time: secret bytes index tables. The S-box is looked up by bytes of the key schedule, and for single
-/// blocks AES's round tables, four of 256 words, by bytes of the state. GHASH looks up two tables of 16 multiples of its
-/// key by the halves of each byte of a block XORed with the sum so far; for a long text it looks up 256 multiples of each
-/// of four powers of the key by the bytes of four blocks, the first of them XORed with the sum.
 #[derive(Drop)]
 pub struct Gcm {
     key: AesKey,
@@ -144,14 +139,12 @@ impl Gcm {
 }
 
 /// Returns the hash subkey H of a key: the block of zeros under AES (SP 800-38D, 7.1). It is the key of GHASH, and secret.
-///
-/// Not constant time: AES looks up its round tables, four of 256 words, by bytes of the state.
 #[inline(always)]
 pub fn hash_subkey(key: &AesKey) -> Block
     ensures value { result ≡ hash_key key.now }
     ensures is_key { IsKey key.now }
 {
-    key.encrypt(&Block::new([0; 16]))
+    key.encrypt_in_registers(&Block::new([0; 16]))
 }
 
 // Returns the keys of the hash of a message: that of GHASH, and the block that the tag is masked with.
@@ -161,7 +154,7 @@ pub(crate) fn hash_keys(key: &AesKey, ghash_key: &Block, nonce: &Nonce) -> [u8; 
 {
     joined(
         ghash_key.bytes(),
-        key.encrypt(&counter_block(nonce, 1)).bytes(),
+        key.encrypt_in_registers(&counter_block(nonce, 1)).bytes(),
     )
 }
 
@@ -214,7 +207,10 @@ impl<'a, M: Multiply + Copy, K: KeptKey + Copy> OnePass for NoncedGcm<'a, M, K> 
     fn hash(&self) -> GhashTag<M> {
         GhashTag {
             hash: Ghash::with(self.multiplier),
-            mask: self.key.kept().encrypt(&counter_block(self.nonce, 1)),
+            mask: self
+                .key
+                .kept()
+                .encrypt_in_registers(&counter_block(self.nonce, 1)),
         }
     }
 
@@ -228,8 +224,6 @@ impl<'a, M: Multiply + Copy, K: KeptKey + Copy> OnePass for NoncedGcm<'a, M, K> 
 
 /// AES-GCM (SP 800-38D) by a key's schedule and its hash subkey, which the caller keeps. The table that hashes a message is made
 /// of the hash subkey for it, a larger one for a long message. Opening in place authenticates before it changes a byte.
-///
-/// Not constant time: secret bytes index the tables that [`Gcm`] names.
 #[derive(Drop)]
 pub struct GcmKeys<'a> {
     suite: Suite,
@@ -345,8 +339,6 @@ impl<'a> Aead for GcmKeys<'a> {
 /// AES-GCM (SP 800-38D) by a key's schedule, its hash subkey and a multiplier by that, which the caller keeps, as a [`Gcm`]
 /// keeps its own. A long message is hashed by a larger table, which is made of the hash subkey for the message. Opening in
 /// place authenticates before it changes a byte.
-///
-/// Not constant time: secret bytes index the tables that [`Gcm`] names.
 #[derive(Drop)]
 pub struct BorrowedGcm<'a, M: Multiply> {
     keys: GcmKeys<'a>,

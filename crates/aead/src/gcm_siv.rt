@@ -26,11 +26,6 @@ use std::marker::Model;
 
 /// AES-GCM-SIV under a key of 16 or 32 bytes (RFC 8452). Opening in place decrypts before it can
 /// authenticate, and encrypts again after `TagMismatch`. Contracts see its suite and key.
-///
-/// Not constant time: secret bytes index tables. The S-box is looked up by bytes of the key schedule, and for single
-/// blocks AES's round tables, four of 256 words, by bytes of the state. POLYVAL looks up two tables of 16 multiples of its
-/// key by the halves of each byte of a block XORed with the sum so far; for a long text it looks up 256 multiples of each
-/// of four powers of the key by the bytes of four blocks, the first of them XORed with the sum.
 #[derive(Drop)]
 pub struct GcmSiv {
     key: AesKey,

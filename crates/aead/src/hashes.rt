@@ -181,7 +181,13 @@ impl<M: Multiply, K: KeptKey> TagHash for PolyvalTag<M, K> {
         self.hash
             .pad16_and_add(&joined(&first.to_le_bytes(), &second.to_le_bytes()));
         let block = tag_block(self.hash.hash().bytes(), self.nonce.bytes());
-        Tag::new(*self.key.kept().encrypt(&Block::new(block)).bytes())
+        Tag::new(
+            *self
+                .key
+                .kept()
+                .encrypt_in_registers(&Block::new(block))
+                .bytes(),
+        )
     }
 }
 

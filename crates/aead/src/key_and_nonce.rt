@@ -1,7 +1,8 @@
 //! The key and the nonce of a message as plain numbers, under any suite, for a caller that stores its state in its own memory. Only
 //! the bytes of the key are stored: each step makes the key schedule and the table of the hash key that it needs.
 
-ghost use Rattle.std.specs.Prelude.{◌≡◌, ◌≤◌, ℕ, List, [], length, take, MatchResult, IfOk, OnErr};
+ghost use Rattle.std.specs.Prelude.{◌≡◌, ◌≤◌, ◌-◌, ℕ, List, [], length, take, drop, replicate};
+ghost use Rattle.std.specs.Prelude.{MatchResult, IfOk, OnErr};
 ghost use Rattle.aes.specs.Cipher.{IsKey};
 ghost use Rattle.gf128.specs.Orders.{Reversed, Serves};
 ghost use Rattle.aead.specs.Suites.{ByChaCha, ByGcm, ByGcmSiv, construction_of, key_length, aad_limit};
@@ -50,6 +51,7 @@ impl KeyAndNonce {
     fn of(key: &[u8], nonce: &Nonce) -> KeyAndNonce
         requires { length key.now ≤ 32 }
         ensures key { take (length key.now) result.key ≡ key.now }
+        ensures padded { drop (length key.now) result.key ≡ replicate (32 - length key.now) 0 }
         ensures nonce { result.nonce ≡ nonce.now }
         ensures nonce_length { length nonce.now ≡ 12 }
     {

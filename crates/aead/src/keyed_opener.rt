@@ -1,7 +1,7 @@
 //! An opening in pieces together with its keys, as plain numbers, for a caller that stores them in its own memory. The first pass
 //! over the ciphertext returns no text; only if it was over a valid sealing does a second pass decrypt.
 
-ghost use Rattle.std.specs.Prelude.{◌≡◌, ◌+◌, ◌<◌, ◌≤◌, ◌++◌, ℕ, List, [], length, MatchResult, IfOk, OnErr};
+ghost use Rattle.std.specs.Prelude.{◌≡◌, ◌+◌, ◌<◌, ◌≤◌, ◌++◌, ℕ, List, [], length, min, MatchResult, IfOk, OnErr};
 ghost use Rattle.octets.specs.Masked.{masked};
 ghost use Rattle.aead.specs.Suites.{key_length, text_limit};
 ghost use Rattle.aead.specs.Sealing.{Setting, IsNoSealing, hash_key, mask_of};
@@ -26,7 +26,7 @@ pub struct KeyedOpener {
 }
 
 impl KeyedOpener {
-    ghost use Rattle.aead.specs.KeyedPieces.{zero_opener, HoldsFirstPass, HoldsSecondPass, opener_count, FitsIn};
+    ghost use Rattle.aead.specs.KeyedPieces.{zero_opener, HoldsFirstPass, HoldsSecondPass, opener_count, opener_first, opener_state, FitsIn};
 
     /// All zeros.
     pub fn zeros() -> KeyedOpener
@@ -130,6 +130,7 @@ impl KeyedOpener {
 
     /// Returns the state without the key and the nonce, for [`KeyedOpener::resumed`].
     pub fn state(&self) -> TwoPassState
+        ensures value { result ≡ opener_state self.now }
         ensures first { (s : Setting) (tag body : List ℕ) → HoldsFirstPass self.now s tag body
             → IsInFirstPass result s tag body }
         ensures second { (s : Setting) (tag : List ℕ) (first : ℕ) (body : List ℕ)
@@ -172,7 +173,8 @@ impl KeyedOpener {
             × (piece.new ≡ masked (mask_of s tag) (length body) piece.old) × WasOverASealing s tag first)
             (λ e. (e ≡ Fault.SourceChanged) × (first < length (body ++ piece.old))) }
         ensures kept { OnErr result ((self.new ≡ self.old) × (piece.new ≡ piece.old)) }
-        ensures fault { MatchResult result (λ _. Unit {0}) (λ e. e ≡ Fault.SourceChanged) }
+        ensures fault { FitsIn Fault.SourceChanged result (opener_count self.old) (length piece.old)
+            (min (opener_first self.old) (text_limit suite)) }
     {
         let mut known = KnownBlock::none();
         self.state.open(&self.keys.keys(suite), &mut known, piece)

@@ -24,7 +24,7 @@ pub struct KeyedSealer {
 }
 
 impl KeyedSealer {
-    ghost use Rattle.aead.specs.KeyedPieces.{zero_sealer, HoldsKeyedText, sealer_count, FitsIn};
+    ghost use Rattle.aead.specs.KeyedPieces.{zero_sealer, HoldsKeyedText, sealer_count, sealer_state, FitsIn};
 
     /// All zeros.
     pub fn zeros() -> KeyedSealer
@@ -101,7 +101,8 @@ impl KeyedSealer {
 
     /// Returns the state without the key and the nonce, for [`KeyedSealer::resumed`].
     pub fn state(&self) -> PassState
-        ensures { (s : Setting) (text : List ℕ) → HoldsKeyedText self.now s text → HoldsState result s text }
+        ensures value { result ≡ sealer_state self.now }
+        ensures holds { (s : Setting) (text : List ℕ) → HoldsKeyedText self.now s text → HoldsState result s text }
     {
         let KeyedSealer { state, .. } = self;
         *state

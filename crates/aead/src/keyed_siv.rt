@@ -1,7 +1,7 @@
 //! A sealing in pieces under AES-GCM-SIV (RFC 8452) together with its keys, as plain numbers, for a caller that stores them in its
 //! own memory. The first reading of the text gives its tag, and the second one encrypts it.
 
-ghost use Rattle.std.specs.Prelude.{◌≡◌, ◌+◌, ◌<◌, ◌≤◌, ◌++◌, ℕ, List, [], length, MatchResult, IfOk, OnErr};
+ghost use Rattle.std.specs.Prelude.{◌≡◌, ◌+◌, ◌<◌, ◌≤◌, ◌++◌, ℕ, List, [], length, min, MatchResult, IfOk, OnErr};
 ghost use Rattle.octets.specs.Masked.{masked};
 ghost use Rattle.aead.specs.Suites.{ByGcmSiv, construction_of, key_length, text_limit};
 ghost use Rattle.aead.specs.Sealing.{Setting, hash_key, mask_of, tag_of};
@@ -26,7 +26,7 @@ pub struct KeyedSiv {
 }
 
 impl KeyedSiv {
-    ghost use Rattle.aead.specs.KeyedPieces.{zero_siv, HoldsFirstReading, HoldsSecondReading, siv_count, FitsIn};
+    ghost use Rattle.aead.specs.KeyedPieces.{zero_siv, HoldsFirstReading, HoldsSecondReading, siv_count, siv_first, siv_state, FitsIn};
 
     /// All zeros.
     pub fn zeros() -> KeyedSiv
@@ -129,6 +129,7 @@ impl KeyedSiv {
 
     /// Returns the state without the key and the nonce, for [`KeyedSiv::resumed`].
     pub fn state(&self) -> TwoPassState
+        ensures value { result ≡ siv_state self.now }
         ensures first { (s : Setting) (text : List ℕ) → HoldsFirstReading self.now s text
             → IsInFirstReading result s text }
         ensures second { (s : Setting) (first text : List ℕ) → HoldsSecondReading self.now s first text
@@ -167,7 +168,8 @@ impl KeyedSiv {
             × (piece.new ≡ masked (mask_of s (tag_of s first)) (length text) piece.old))
             (λ e. (e ≡ Fault.SourceChanged) × (length first < length (text ++ piece.old))) }
         ensures kept { OnErr result ((self.new ≡ self.old) × (piece.new ≡ piece.old)) }
-        ensures fault { MatchResult result (λ _. Unit {0}) (λ e. e ≡ Fault.SourceChanged) }
+        ensures fault { FitsIn Fault.SourceChanged result (siv_count self.old) (length piece.old)
+            (min (siv_first self.old) (text_limit suite)) }
     {
         let mut known = KnownBlock::none();
         self.state.write(&self.keys.keys(suite), &mut known, piece)

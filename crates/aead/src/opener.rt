@@ -9,8 +9,9 @@ ghost use Rattle.aead.specs.Ciphers.{setting};
 ghost use Rattle.aead.specs.AnyCiphers.{keyed_of};
 ghost use Rattle.aead.specs.Refusals.{SealRefused};
 ghost use Rattle.aead.specs.PassStates.{HasHashKey, HoldsNone, HoldsNumbers};
-ghost use Rattle.aead.specs.Code.MessageKeys.{AreKeysOf};
+ghost use Rattle.aead.specs.Code.MessageKeys.{construction_by, AreKeysOf};
 ghost use Rattle.aead.specs.Pieces.{Opens, WasOverASealing, IsInFirstPass, IsInSecondPass, MasksByBytes, OpensUnder};
+ghost use Rattle.aead.specs.Pieces.{construction_under};
 
 use crate::aead::Aead;
 use crate::any::AnyAead;
@@ -39,7 +40,8 @@ pub(crate) enum OpenerKeys<'a> {
 impl<'a> OpenerKeys<'a> {
     // Lends the keys for a step.
     fn keys<'b>(&'b self) -> MessageKeys<'b>
-        ensures { (s : Setting) → OpensUnder self.now s → AreKeysOf result s }
+        ensures by { construction_by result.cipher ≡ construction_under self.now }
+        ensures keys { (s : Setting) → OpensUnder self.now s → AreKeysOf result s }
     {
         match self {
             OpenerKeys::OnePass(keys) => *keys,
@@ -192,7 +194,8 @@ pub struct OpenWriter<'a> {
 }
 
 impl<'a> OpenWriter<'a> {
-    ghost use Rattle.aead.specs.Pieces.{HoldsOpenWriter};
+    ghost use Rattle.aead.specs.Pieces.{HoldsOpenWriter, open_writer_count, open_writer_limit};
+    ghost use Rattle.aead.specs.KeyedPieces.{FitsIn};
 
     /// Goes on from a saved `state`, which [`OpenWriter::state`] returned under the same cipher and nonce. `TagMismatch` if the
     /// state belongs to another key or nonce.
@@ -238,7 +241,8 @@ impl<'a> OpenWriter<'a> {
             × (length (body ++ piece.old) ≤ first))
             (λ e. (e ≡ Fault.SourceChanged) × (first < length (body ++ piece.old))) }
         ensures kept { OnErr result ((self.new ≡ self.old) × (piece.new ≡ piece.old)) }
-        ensures fault { MatchResult result (λ _. Unit {0}) (λ e. e ≡ Fault.SourceChanged) }
+        ensures fault { FitsIn Fault.SourceChanged result (open_writer_count self.old) (length piece.old)
+            (open_writer_limit self.old) }
     {
         self.state.open(&self.keys.keys(), &mut self.known, piece)
     }

@@ -12,15 +12,24 @@ ghost use Rattle.aead.specs.Code.States.{HoldsAuthenticator};
 
 use crate::authenticator::Authenticator;
 use crate::beside::{Order, step};
-use crate::hashes::{HashKeys, TagHash, last_block};
+use crate::hashes::{HashKeys, TagHash};
 use crate::keys::MessageKeys;
 use crate::mask::MaskStream;
 use crate::text_parts::take_text;
 use aes::KnownBlock;
-use octets::{Block, Fault, Tag, same};
+use octets::{Block, Fault, Tag};
 
 // 2^64.
 const WORD: u128 = 0x1_0000_0000_0000_0000;
+
+// Returns whether two hash keys are equal. All 32 bytes are compared at once, so that the time does not tell how many of them are
+// equal.
+fn same_hash_key(a: &[u8; 32], b: &[u8; 32]) -> bool
+    ensures same { (result ≡ true) ↔ (a.now ≡ b.now) }
+    ensures are_blocks { IsBlock (take 16 a.now) × IsBlock (take 16 b.now) }
+{
+    a == b
+}
 
 /// The state of a pass over a message as plain numbers, without the message's key and nonce. Each number may have any value.
 ///
@@ -31,9 +40,9 @@ const WORD: u128 = 0x1_0000_0000_0000_0000;
 pub struct PassState {
     // The one-time key of Poly1305; or the key of GHASH and the cipher of J0; or the key of POLYVAL's multiplier and zeros.
     hash_key: [u8; 32],
-    // The bytes after the last whole block of what is hashed.
+    // The bytes after the last whole block of what is hashed, and zeros after them.
     rest: [u8; 16],
-    // The sum over the whole blocks, in words of 64 bits.
+    // The sum over the whole blocks, in words of 64 bits. `high` is 0 under GHASH and POLYVAL.
     low: u64,
     middle: u64,
     high: u64,
@@ -141,14 +150,13 @@ impl PassState {
         Block::new(first)
     }
 
-    // Whether both states have the same hash key.
+    // Whether both states have the same hash key. This verdict is public: a caller that resumes a state learns whether it belongs to
+    // the key and the nonce.
     pub(crate) fn has_hash_key_of(&self, other: &PassState) -> bool
         ensures same { (result ≡ true) ↔ (self.now.hash_key ≡ other.now.hash_key) }
         ensures are_blocks { IsBlock (take 16 self.now.hash_key) × IsBlock (take 16 other.now.hash_key) }
     {
-        let (first, last) = (self.multiplier_key(), last_block(&self.hash_key));
-        let (other_first, other_last) = (other.multiplier_key(), last_block(&other.hash_key));
-        same(first.bytes(), other_first.bytes()) && same(last.bytes(), other_last.bytes())
+        same_hash_key(&self.hash_key, &other.hash_key)
     }
 
     // Whether the text so far and the piece are together within this limit.
@@ -272,7 +280,7 @@ impl PassState {
     {
         PassState {
             hash_key: self.hash_key,
-            rest: self.rest,
+            rest: [0; 16],
             low: start.low,
             middle: start.middle,
             high: start.high,

@@ -106,7 +106,8 @@ pub struct SivWriter {
 }
 
 impl SivWriter {
-    ghost use Rattle.aead.specs.Pieces.{HoldsWriter, IsInSecondReading, Repeats};
+    ghost use Rattle.aead.specs.Pieces.{HoldsWriter, IsInSecondReading, Repeats, siv_writer_count, siv_writer_limit};
+    ghost use Rattle.aead.specs.KeyedPieces.{FitsIn};
 
     /// Goes on from a saved `state`, which [`SivWriter::state`] returned under the same cipher and nonce. `TagMismatch` if the
     /// state belongs to another key or nonce.
@@ -144,7 +145,8 @@ impl SivWriter {
             × (length text + length piece.old ≤ length first))
             (λ e. (e ≡ Fault.SourceChanged) × (length first < length text + length piece.old)) }
         ensures kept { OnErr result ((self.new ≡ self.old) × (piece.new ≡ piece.old)) }
-        ensures fault { MatchResult result (λ _. Unit {0}) (λ e. e ≡ Fault.SourceChanged) }
+        ensures fault { FitsIn Fault.SourceChanged result (siv_writer_count self.old) (length piece.old)
+            (siv_writer_limit self.old) }
     {
         self.state.write(&self.keys.keys(), &mut self.known, piece)
     }

@@ -1,7 +1,7 @@
 //! The keys of a message of AES-GCM-SIV (RFC 8452, 4) and its nonce, with the key schedule and the small table of the hash key.
 
 ghost use Rattle.std.specs.Prelude.{◌≡◌, ◌≤◌, ℕ, List, [], length, MatchResult, IfOk};
-ghost use Rattle.aead.specs.Suites.{aad_limit};
+ghost use Rattle.aead.specs.Suites.{ByGcmSiv, aad_limit};
 ghost use Rattle.aead.specs.Sealing.{Setting};
 ghost use Rattle.aead.specs.Ciphers.{setting};
 ghost use Rattle.aead.specs.PassStates.{HasHashKey, HoldsNone, HoldsNumbers};
@@ -27,7 +27,7 @@ pub(crate) struct SivKeys {
 
 impl SivKeys {
     ghost use Rattle.aead.specs.Pieces.{AreKeys};
-    ghost use Rattle.aead.specs.Code.MessageKeys.{AreKeysOf};
+    ghost use Rattle.aead.specs.Code.MessageKeys.{construction_by, AreKeysOf};
 
     // Derives the keys of the message with this nonce.
     pub(crate) fn new(cipher: &GcmSiv, nonce: &Nonce) -> SivKeys
@@ -76,7 +76,8 @@ impl SivKeys {
 
     // Lends the keys for a step.
     pub(crate) fn keys<'a>(&'a self) -> MessageKeys<'a>
-        ensures { (s : Setting) → AreKeys self.now s → AreKeysOf result s }
+        ensures by { construction_by result.cipher ≡ ByGcmSiv }
+        ensures keys { (s : Setting) → AreKeys self.now s → AreKeysOf result s }
     {
         MessageKeys {
             cipher: CipherKeys::Siv(AesKeys::Expanded(self.expanded())),

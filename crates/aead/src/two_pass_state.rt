@@ -1,7 +1,7 @@
 //! The state of a sealing in two readings or of an opening in two passes, as plain numbers, which a caller can save. The steps are
 //! the same whether a cipher lends the keys or the caller has them as bytes.
 
-ghost use Rattle.std.specs.Prelude.{◌≡◌, ◌+◌, ◌<◌, ◌≤◌, ◌++◌, ℕ, List, [], length, true, false};
+ghost use Rattle.std.specs.Prelude.{◌≡◌, ◌+◌, ◌<◌, ◌≤◌, ◌++◌, ℕ, List, [], length, min, true, false};
 ghost use Rattle.std.specs.Prelude.{MatchResult, OnErr};
 ghost use Rattle.octets.specs.Masked.{masked};
 ghost use Rattle.aead.specs.Suites.{ByGcmSiv, construction_of, text_limit, text_limit_by};
@@ -37,7 +37,7 @@ impl TwoPassState {
     ghost use Rattle.aead.specs.KeyedPieces.{zero_passes, FitsIn};
     ghost use Rattle.aead.specs.Code.MessageKeys.{construction_by, AreKeysOf};
     ghost use Rattle.aead.specs.Pieces.{IsInFirstReading, IsInSecondReading, Repeats};
-    ghost use Rattle.aead.specs.Pieces.{IsInFirstPass, IsInSecondPass, Opens, WasOverASealing, MasksByBytes};
+    ghost use Rattle.aead.specs.Pieces.{IsInPass, IsInFirstPass, IsInSecondPass, Opens, WasOverASealing, MasksByBytes};
 
     // All zeros.
     pub(crate) fn zeros() -> TwoPassState
@@ -56,6 +56,7 @@ impl TwoPassState {
         ensures pass { result.pass ≡ pass }
         ensures start { (s : Setting) → HoldsNumbers pass s [] → IsStart result.start s }
         ensures tag { result.tag ≡ tag.now }
+        ensures none { result.first ≡ 0 }
     {
         TwoPassState {
             pass,
@@ -136,7 +137,8 @@ impl TwoPassState {
             × (length text + length piece.old ≤ length first) × KnowsCipherOf known.new s)
             (λ e. (e ≡ Fault.SourceChanged) × (length first < length text + length piece.old)) }
         ensures kept { OnErr result ((self.new ≡ self.old) × (piece.new ≡ piece.old) × (known.new ≡ known.old)) }
-        ensures fault { MatchResult result (λ _. Unit {0}) (λ e. e ≡ Fault.SourceChanged) }
+        ensures fault { FitsIn Fault.SourceChanged result self.old.pass.length (length piece.old)
+            (min self.old.first (text_limit_by (construction_by keys.now.cipher))) }
     {
         let limit = self.first.min(keys.text_limit());
         if !self.pass.has_room(limit, piece) {
@@ -187,9 +189,9 @@ impl TwoPassState {
     // Whether the bytes of the pass and the tag are a valid sealing.
     fn is_sealing(&self, keys: &MessageKeys) -> bool
         ensures sealing { (s : Setting) (tag body : List ℕ) → AreKeysOf keys.now s → MasksByBytes s
-            → IsInFirstPass self.now s tag body → result ≡ true → Opens s tag body }
+            → IsInPass self.now s tag body → result ≡ true → Opens s tag body }
         ensures none { (s : Setting) (tag body : List ℕ) → AreKeysOf keys.now s → MasksByBytes s
-            → IsInFirstPass self.now s tag body → result ≡ false → IsNoSealing s (body ++ tag) }
+            → IsInPass self.now s tag body → result ≡ false → IsNoSealing s (body ++ tag) }
     {
         same(keys.tag(&self.pass).bytes(), &self.tag)
     }
@@ -227,7 +229,8 @@ impl TwoPassState {
             × (length (body ++ piece.old) ≤ first) × KnowsCipherOf known.new s)
             (λ e. (e ≡ Fault.SourceChanged) × (first < length (body ++ piece.old))) }
         ensures kept { OnErr result ((self.new ≡ self.old) × (piece.new ≡ piece.old) × (known.new ≡ known.old)) }
-        ensures fault { MatchResult result (λ _. Unit {0}) (λ e. e ≡ Fault.SourceChanged) }
+        ensures fault { FitsIn Fault.SourceChanged result self.old.pass.length (length piece.old)
+            (min self.old.first (text_limit_by (construction_by keys.now.cipher))) }
     {
         let limit = keys.text_limit().min(self.first);
         if !self.pass.has_room(limit, piece) {

@@ -8,7 +8,7 @@ pub returns : goal.returns
 unfolding key_part
 returns c =
     c.first_half.ensures
-    ∙ ap (take 8) (c.bytes-2.ensures.value ∙ c.encrypt-block.ensures.value
+    ∙ ap (take 8) (c.bytes-2.ensures.value ∙ c.encrypt_in_registers-block.ensures.value
     ∙ ap (cipher c.args.key.now)
     (c.new.ensures.value ∙ c.numbered.ensures
     ∙ ap (λ n. to_le_bytes w32 c.args.i ++ n) c.bytes.ensures.value))

@@ -11,7 +11,7 @@ returns c = λ s key nonce.
     let second = c.bytes-2.result.now in
     let long : length first ≡ 16 = ap length c.bytes.ensures.value ∙ c.bytes.ensures.are_bytes.length_is in
     let mask : second ≡ cipher s.key (j0 s.nonce) =
-    c.bytes-2.ensures.value ∙ c.encrypt.ensures.value
+    c.bytes-2.ensures.value ∙ c.encrypt_in_registers.ensures.value
     ∙ ap₂ cipher (sym key) (c.counter_block.ensures.value ∙ ap j0 (sym nonce)) in (
       ap (take 16) c.joined.ensures ∙ take_at first second 16 long ∙ c.bytes.ensures.value ∙ c.requires
           ∙ ap hash_key (sym key),

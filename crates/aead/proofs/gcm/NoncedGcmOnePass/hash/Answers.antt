@@ -9,5 +9,5 @@ returns g c = λ aad.
     let m = c.args.self.now in (
       m.by_gcm,
       c.with.ensures (hash_key (g.K.KeptKey.bytes m.key)) m.multiplier_is,
-      c.encrypt.ensures.value ∙ ap₂ cipher c.kept.ensures c.counter_block.ensures.value,
+      c.encrypt_in_registers.ensures.value ∙ ap₂ cipher c.kept.ensures c.counter_block.ensures.value,
     )

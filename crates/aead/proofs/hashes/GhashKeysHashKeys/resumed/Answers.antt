@@ -7,4 +7,4 @@ pub returns : goal.returns
 returns g c = λ s m serves keyed_by sum_by rest.
     let keyed = subst (λ x. IsHashKey x c.args.hash_key.now s) serves.0 keyed_by in
     let sum = subst (λ x. IsSumOf x c.args.low c.args._high s m) serves.0 sum_by in
-    (serves.0, c.resumed.ensures (hash_key s.key) m serves.1 sum rest, c.last_block.ensures ∙ keyed.1)
+    (serves.0, c.resumed.ensures (hash_key s.key) m serves.1 sum.0 rest, c.last_block.ensures ∙ keyed.1)

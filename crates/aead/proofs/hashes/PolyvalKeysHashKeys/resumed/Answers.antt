@@ -8,7 +8,7 @@ pub returns : goal.returns
 returns g c = λ s m serves keyed_by sum_by rest.
     let sum = subst (λ x. IsSumOf x c.args.low c.args._high s m) serves.0 sum_by in (
       serves.0,
-      ∥∥₁_map sum (λ is. c.resumed.ensures (authentication_key s.key s.nonce) m serves.1 is rest),
+      ∥∥₁_map sum.0 (λ is. c.resumed.ensures (authentication_key s.key s.nonce) m serves.1 is rest),
       serves.2,
       serves.3,
     )

@@ -18,6 +18,6 @@ returns c =
     subst (λ (x : Construction). IsHashKey x c.one_time_key.result s) by c.one_time_key.ensures in (
       has_keys c.of.result s c.bytes.result.now
           (c.bytes.ensures.value ∙ ap (λ (x : Construction). cipher_key x s) by) (ap length c.bytes.ensures.value ∙ long)
-          long c.of.ensures.nonce_length c.of.ensures.key c.of.ensures.nonce,
+          long c.of.ensures.nonce_length c.of.ensures.key c.of.ensures.padded c.of.ensures.nonce,
       c.initial.ensures s c.requires.by keyed refl c.requires.fits,
     )

@@ -13,6 +13,7 @@ returns-clause-holds c = λ s same by key_fits key serves nonce aad fits.
     let is = ap construction_of same ∙ by in (
       has_keys c.of.result s c.args.key.now (key ∙ ap (λ (x : Construction). cipher_key x s) (sym is))
           (c.requires ∙ ap key_length (sym same)) (key_fits ∙ ap key_length (sym same))
-          (ap length nonce ∙ c.of.ensures.nonce_length) c.of.ensures.key (c.of.ensures.nonce ∙ sym nonce),
+          (ap length nonce ∙ c.of.ensures.nonce_length) c.of.ensures.key c.of.ensures.padded
+          (c.of.ensures.nonce ∙ sym nonce),
       c.initial_state_by_key.ensures s is key serves (sym nonce) aad (omega (arith, fits, ap aad_limit same)),
     )

@@ -12,6 +12,7 @@ pub returns : goal.returns
 returns c =
     let s : Setting = setting_of c.args.suite c.args.key.now c.args.nonce.now c.args.aad.now in (
       has_keys c.of.result s c.args.key.now (ap (λ (x : Construction). cipher_key x s) (sym c.requires.by))
-          c.requires.long c.requires.long c.of.ensures.nonce_length c.of.ensures.key c.of.ensures.nonce,
+          c.requires.long c.requires.long c.of.ensures.nonce_length c.of.ensures.key c.of.ensures.padded
+          c.of.ensures.nonce,
       c.initial_state_by_key.ensures s c.requires.by (sym c.requires.cipher) refl refl c.requires.fits,
     )

@@ -15,10 +15,13 @@ returns-in-Ok-clause-answer c =
       keys = begun.0;
       bytes = masks_by_bytes s begun.0.lengths.key_fits (λ i. (c.type_inv.key i).fits);
       state = record {
-        pass = subst (λ n. HasTakenIn n s tag []) (sym c.first-self.ensures.pass) (taken_none _ s tag begun.1);
-        start = c.first-self.ensures.start s begun.1;
-        tag_is = c.first-self.ensures.tag;
-        tag_long = omega arith;
-        small = λ i. omega arith;
+        pass = record {
+          pass = subst (λ n. HasTakenIn n s tag []) (sym c.first-self.ensures.pass) (taken_none _ s tag begun.1);
+          start = c.first-self.ensures.start s begun.1;
+          tag_is = c.first-self.ensures.tag;
+          tag_long = omega arith;
+          small = λ i. omega arith;
+        };
+        first_is = c.first-self.ensures.none;
       };
     }

@@ -14,5 +14,7 @@ returns-in-Ok-clause-answer c =
       state = record {
         pass = subst (λ n. HoldsNumbers n s []) (sym c.first-self.ensures.pass) begun.1;
         start = c.first-self.ensures.start s begun.1;
+        tag_is = c.first-self.ensures.tag;
+        first_is = c.first-self.ensures.none;
       };
     }

@@ -15,10 +15,13 @@ returns c =
       keys = (begin.keys c.args.aad.now).0;
       bytes = (begin.keys c.args.aad.now).1;
       state = record {
-        pass = subst (λ p. HasTakenIn p s tag []) (sym c.first-state.ensures.pass) (taken_none _ s tag begin.holds);
-        start = c.first-state.ensures.start s begin.holds;
-        tag_is = c.first-state.ensures.tag ∙ c.bytes.ensures.value;
-        tag_long = c.bytes.ensures.are_bytes.length_is;
-        small = λ i. omega arith;
+        pass = record {
+          pass = subst (λ p. HasTakenIn p s tag []) (sym c.first-state.ensures.pass) (taken_none _ s tag begin.holds);
+          start = c.first-state.ensures.start s begin.holds;
+          tag_is = c.first-state.ensures.tag ∙ c.bytes.ensures.value;
+          tag_long = c.bytes.ensures.are_bytes.length_is;
+          small = λ i. omega arith;
+        };
+        first_is = c.first-state.ensures.none;
       };
     }

@@ -6,7 +6,7 @@ use Rattle.aead.proofs.opener.Opener.update.Goals as goal
 
 pub returns-clause-answer : goal.returns-clause-answer
 returns-clause-answer c = λ s tag body h.
-    MatchResult-weaker c.check.result (c.check.ensures.answer s tag body (c.keys.ensures s h.keys) h.state)
+    MatchResult-weaker c.check.result (c.check.ensures.answer s tag body (c.keys.ensures.keys s h.keys) h.state)
     (λ _ m. (record { keys = h.keys; bytes = h.bytes; state = m.0 }, m.1)) (λ _ e. e)
 
 pub returns-clause-kept : goal.returns-clause-kept

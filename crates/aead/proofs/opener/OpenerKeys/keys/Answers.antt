@@ -1,12 +1,18 @@
-use Rattle.std.proofs.Common.{sym, subst}
+use Rattle.std.proofs.Common.{ap, sym, subst, ◌∙◌}
 use Rattle.aead.specs.declared.opener.OpenerKeys.{OpenerKeys}
-use Rattle.aead.specs.Pieces.{OpensUnder}
+use Rattle.aead.specs.Pieces.{OpensUnder, construction_under}
 use Rattle.aead.proofs.opener.OpenerKeys.keys.Goals as goal
 
-pub returns-in-OnePass : goal.returns-in-OnePass
-returns-in-OnePass c = λ s h. subst (λ (x : OpenerKeys). OpensUnder x s) c.in-OnePass.is h
+pub returns-in-OnePass-clause-by : goal.returns-in-OnePass-clause-by
+returns-in-OnePass-clause-by c = sym (ap construction_under c.in-OnePass.is)
 
-pub returns-in-Siv : goal.returns-in-Siv
-returns-in-Siv c = λ s h.
+pub returns-in-OnePass-clause-keys : goal.returns-in-OnePass-clause-keys
+returns-in-OnePass-clause-keys c = λ s h. subst (λ (x : OpenerKeys). OpensUnder x s) c.in-OnePass.is h
+
+pub returns-in-Siv-clause-by : goal.returns-in-Siv-clause-by
+returns-in-Siv-clause-by c = c.keys.ensures.by ∙ sym (ap construction_under c.in-Siv.is)
+
+pub returns-in-Siv-clause-keys : goal.returns-in-Siv-clause-keys
+returns-in-Siv-clause-keys c = λ s h.
     let k = subst (λ (x : OpenerKeys). OpensUnder x s) c.in-Siv.is h in
     c.keys.ensures.keys s (sym k.0) k.1

@@ -14,6 +14,7 @@ returns c = λ s keyed none.
       sum_is = subst (λ (m : List ℕ). IsSumOf (construction_of s.suite) 0 0 s m) (sym nothing)
           (no_sum (construction_of s.suite) s);
       rest_is = ap (λ (m : List ℕ). drop (length m / 16 * 16) m) (sym nothing);
+      padded = refl;
       aad_length_is = sym none;
       length_is = refl;
       fits = record { aad_fits = omega (arith, none); text_fits = omega arith };

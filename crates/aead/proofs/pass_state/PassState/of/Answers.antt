@@ -1,7 +1,7 @@
 use Rattle.std.proofs.Common.{◌≡◌, ℕ, ◌+◌, ◌*◌, ◌/◌, ◌%◌, ◌^◌, ◌++◌, ◌∙◌, ap, subst, arith, length, length-append, drop}
 use Rattle.std.proofs.Common.{replicate}
-use Rattle.std.proofs.lemmas.List.{length-drop}
-use Rattle.std.proofs.lemmas.Slice.{take-put_mid}
+use Rattle.std.proofs.lemmas.List.{length-drop, drop-replicate}
+use Rattle.std.proofs.lemmas.Slice.{take-put_mid, drop-put_mid}
 use Rattle.octets.specs.Bytes.{pad16}
 use Rattle.octets.proofs.Texts.{whole_padded}
 use Rattle.aead.specs.Suites.{construction_of}
@@ -31,6 +31,9 @@ returns-clause-holds g c = λ s bytes keyed held.
           (c.sum-low.ensures s m held.hashed);
       rest_is = take-put_mid 0 (length last) (replicate 16 0) c.copy_from_slice.new.self (c.args.authenticator.now.length % 16)
           (omega (arith, used, ap length after)) (omega arith) ∙ after ∙ rest_is;
+      padded = drop-put_mid 0 (length last) (replicate 16 0) c.copy_from_slice.new.self (c.args.authenticator.now.length % 16)
+          (omega (arith, used)) (omega arith) (omega (arith, ap length after))
+          ∙ drop-replicate (c.args.authenticator.now.length % 16) 16 0;
       aad_length_is = held.aad_length_is;
       length_is = held.length_is;
       fits = held.fits;

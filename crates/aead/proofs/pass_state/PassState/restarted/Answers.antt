@@ -17,6 +17,7 @@ returns-clause-holds c = λ s bytes h start.
       sum_is = subst (λ (m : List ℕ). IsSumOf (construction_of s.suite) (n.low + n.middle * 2 ^ 64) n.high s m) (sym none)
           start;
       rest_is = sym (drop_all _ (pad16 s.aad ++ []) (omega (arith, whole)));
+      padded = refl;
       aad_length_is = h.aad_length_is;
       length_is = refl;
       fits = record { aad_fits = h.fits.aad_fits; text_fits = omega arith };

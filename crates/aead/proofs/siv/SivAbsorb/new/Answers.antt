@@ -13,5 +13,7 @@ returns c =
       state = record {
         pass = subst (λ n. HoldsNumbers n s []) (sym c.first-state.ensures.pass) pass;
         start = c.first-state.ensures.start s pass;
+        tag_is = c.first-state.ensures.tag;
+        first_is = c.first-state.ensures.none;
       };
     }

@@ -6,7 +6,7 @@ use Rattle.aead.proofs.siv.SivAbsorb.update.Goals as goal
 
 pub returns-clause-answer : goal.returns-clause-answer
 returns-clause-answer c = λ s text h.
-    MatchResult-weaker c.absorb.result (c.absorb.ensures.answer s text (c.keys.ensures s h.keys) h.state)
+    MatchResult-weaker c.absorb.result (c.absorb.ensures.answer s text (c.keys.ensures.keys s h.keys) h.state)
     (λ _ m. (record { keys = h.keys; state = m.0 }, m.1)) (λ _ e. e)
 
 pub returns-clause-kept : goal.returns-clause-kept

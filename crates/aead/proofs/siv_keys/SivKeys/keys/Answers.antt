@@ -4,8 +4,8 @@ use Rattle.gf128.specs.Code.States.{key_of}
 use Rattle.aead.specs.Sealing.{authentication_key}
 use Rattle.aead.proofs.siv_keys.SivKeys.keys.Goals as goal
 
-pub returns : goal.returns
-returns c = λ s k.
+pub returns-clause-keys : goal.returns-clause-keys
+returns-clause-keys c = λ s k.
     let few = ap key_of c.expanded.ensures.few ∙ k.multiplier_is in
     record {
       by = k.by;

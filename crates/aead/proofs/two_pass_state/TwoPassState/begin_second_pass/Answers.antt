@@ -5,7 +5,8 @@ use Rattle.aead.proofs.KeyedPieces.{taken_none, taken_length, taken_fits}
 use Rattle.aead.proofs.two_pass_state.TwoPassState.begin_second_pass.Goals as goal
 
 pub returns-clause-answer : goal.returns-clause-answer
-returns-clause-answer c = λ s tag body k bytes n.
+returns-clause-answer c = λ s tag body k bytes first.
+    let n = first.pass in
     let sealing = c.is_sealing.ensures.sealing s tag body k bytes n c.if-not-is_sealing.false in
     let next = c.second.ensures in (
       record {
