@@ -20,7 +20,9 @@ use crate::siv::StoredSiv;
 use crate::stored_key::{KEY, KeyNumbers, StoredKey};
 use crate::suites::{NOT_BEGUN, UNKNOWN_SUITE, is_siv, marked, suite_numbered};
 use crate::whole::{Direction, Keys, Opening, Sealing, open_to, run_gcm, run_in_place, seal_to};
-use aead::{BorrowedGcm, ChaChaPoly, GcmSiv, KeyedOpener, KeyedSealer, KeyedSiv, Suite};
+use aead::{
+    BorrowedGcm, ChaChaPoly, GcmSiv, KeyedOpener, KeyedSealer, KeyedSiv, Suite, hash_subkey,
+};
 use octets::{Fault, Key32, Nonce, WIDE, outcome_number};
 
 // Whether a message is hashed sooner with the kept multiples than with others that are computed for it. Those computed for it are
@@ -119,14 +121,13 @@ fn begin_sealer(
     ensures kept { OnErr result (sealer.new ≡ sealer.old) }
 {
     let key = &kept.numbers.key[..suite.key_length()];
-    sealer.begin_by(
-        suite,
-        key,
-        &kept.aes(suite),
-        &kept.ghash_key(suite),
-        nonce,
-        aad,
-    )
+    match suite {
+        Suite::Aes128Gcm | Suite::Aes192Gcm | Suite::Aes256Gcm => {
+            let (cipher, ghash_key) = (kept.aes(suite), kept.ghash_key(suite));
+            sealer.begin_by(suite, key, &cipher, &ghash_key, nonce, aad)
+        }
+        _ => sealer.begin(suite, key, nonce, aad),
+    }
 }
 
 // Begins the first pass of an opening, under a kept key, the bytes of a nonce, and a tag.
@@ -144,15 +145,17 @@ fn begin_opener(
     ensures kept { OnErr result (opener.new ≡ opener.old) }
 {
     let key = &kept.numbers.key[..suite.key_length()];
-    opener.begin_by(
-        suite,
-        key,
-        &kept.aes(suite),
-        &kept.ghash_key(suite),
-        nonce,
-        aad,
-        tag,
-    )
+    match suite {
+        Suite::ChaCha20Poly1305 => opener.begin(suite, key, nonce, aad, tag),
+        Suite::Aes128Gcm | Suite::Aes192Gcm | Suite::Aes256Gcm => {
+            let (cipher, ghash_key) = (kept.aes(suite), kept.ghash_key(suite));
+            opener.begin_by(suite, key, &cipher, &ghash_key, nonce, aad, tag)
+        }
+        Suite::Aes128GcmSiv | Suite::Aes256GcmSiv => {
+            let cipher = kept.aes(suite);
+            opener.begin_by(suite, key, &cipher, &hash_subkey(&cipher), nonce, aad, tag)
+        }
+    }
 }
 
 // Begins the first reading of a sealing, under a kept key and the bytes of a nonce.
@@ -170,14 +173,8 @@ fn begin_siv(
     ensures kept { OnErr result (siv.new ≡ siv.old) }
 {
     let key = &kept.numbers.key[..suite.key_length()];
-    siv.begin_by(
-        suite,
-        key,
-        &kept.aes(suite),
-        &kept.ghash_key(suite),
-        nonce,
-        aad,
-    )
+    let cipher = kept.aes(suite);
+    siv.begin_by(suite, key, &cipher, &hash_subkey(&cipher), nonce, aad)
 }
 
 /// Leaves zeros in the struct, whatever bytes it held: it then keeps neither a key nor a value that depends on one.
@@ -189,9 +186,10 @@ pub extern "C" fn aeadkit_key_wipe(kept: &mut KeyNumbers)
     *kept = KeyNumbers::zeros();
 }
 
-/// Puts a key of a suite into the struct, with the values that depend on the key alone. What the struct held before makes no
-/// difference. Returns 0, or the first of these that applies: `UNKNOWN_SUITE` if no suite has the number, `KeyLength` if the key
-/// does not have the suite's length. On both, zeros are left in the struct, which then keeps no key.
+/// Puts a key of a suite into the struct, with the values that the suite needs and that depend on the key alone: the schedule of
+/// AES under AES-GCM and AES-GCM-SIV, and the key of GHASH and its multiples under AES-GCM. All else is zeros. What the struct held
+/// before makes no difference. Returns 0, or the first of these that applies: `UNKNOWN_SUITE` if no suite has the number,
+/// `KeyLength` if the key does not have the suite's length. On both, zeros are left in the struct, which then keeps no key.
 #[unsafe(no_mangle)]
 pub extern "C" fn aeadkit_key_init(kept: &mut KeyNumbers, suite: u32, key: &[u8]) -> u32
     ensures known { (named : Suite) → suite ≡ suite_number named

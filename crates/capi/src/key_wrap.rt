@@ -1,5 +1,4 @@
-//! Key wrap for C (RFC 3394; RFC 5649), into another output. Each call computes the schedule of the wrapping key anew. Not
-//! constant time: see the page of `keywrap`.
+//! Key wrap for C (RFC 3394; RFC 5649), into another output. Each call computes the schedule of the wrapping key anew.
 
 ghost use Rattle.capi.specs.KeyWraps.{WrapsTo, UnwrapsTo, WrapsPaddedTo, UnwrapsPaddedTo};
 

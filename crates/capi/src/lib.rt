@@ -9,8 +9,7 @@
 //!
 //! A slice crosses as a pointer and a length, and a suite as its number. The status is 0, the number of a fault, 14 if the call
 //! takes no suite with the number, 15 if nothing is begun or kept in the struct, or 16 if the output is not as long as the
-//! result. Not constant time: AES, and the hashes of AES-GCM and AES-GCM-SIV, look up tables by secret bytes. The
-//! header `bindings/include/aeadkit.h` is the manual for C.
+//! result. The header `bindings/include/aeadkit.h` is the manual for C.
 //!
 //! A text is sealed into other memory, with the tag at the end, and opened from there. From `bindings/c/message.c`:
 //! ```c

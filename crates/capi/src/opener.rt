@@ -2,14 +2,14 @@
 //! the ciphertext authenticates it and gives no text. The second one decrypts, and begins only if the first was over a valid
 //! sealing.
 
-ghost use Rattle.std.specs.Prelude.{◌≡◌, ◌≢◌, ◌+◌, ℕ, List, [], length, MatchResult, OnErr};
+ghost use Rattle.std.specs.Prelude.{◌≡◌, ◌≢◌, ◌+◌, ℕ, List, [], length, min, MatchResult, OnErr};
 ghost use Rattle.octets.specs.Numbers.{HasOutcome};
 ghost use Rattle.aead.specs.declared.suite.Suite.{Suite};
 ghost use Rattle.aead.specs.Suites.{text_limit, suite_number};
 ghost use Rattle.aead.specs.Sealing.{Setting};
 ghost use Rattle.aead.specs.Pieces.{IsInFirstPass, IsInSecondPass};
 ghost use Rattle.aead.specs.KeyedPasses.{setting_of, BeginRefused};
-ghost use Rattle.aead.specs.KeyedPieces.{HoldsFirstPass, opener_count};
+ghost use Rattle.aead.specs.KeyedPieces.{HoldsFirstPass, opener_count, opener_first, opener_state};
 ghost use Rattle.capi.specs.Suites.{unknown_suite, not_begun, FitsOr, IsDoneOr};
 ghost use Rattle.capi.specs.Openers.{checking, opening, NotIn, zeros, HoldsChecking, HoldsOpening};
 ghost use Rattle.capi.specs.Openers.{Checks, BeginsSecond, Decrypts, Ends};
@@ -161,7 +161,8 @@ pub extern "C" fn aeadkit_opener_update(opener: &mut StoredOpener, piece: &mut [
     ensures not_begun { NotIn opening opener.old → result ≡ not_begun }
     ensures kept { result ≢ 0 → (opener.new ≡ opener.old) × (piece.new ≡ piece.old) }
     ensures status { (suite : Suite) → opener.old.mark ≡ opening + suite_number suite
-        → IsDoneOr Fault.SourceChanged result }
+        → FitsOr Fault.SourceChanged result (opener_count opener.old.opener) (length piece.old)
+        (min (opener_first opener.old.opener) (text_limit suite)) }
 {
     let Some(suite) = marked(OPENING, opener.mark) else {
         return NOT_BEGUN;
@@ -199,6 +200,7 @@ pub extern "C" fn aeadkit_opener_save(opener: &StoredOpener, saved: &mut SavedPa
     ensures second { (s : Setting) (tag : List ℕ) (first : ℕ) (bytes : List ℕ)
         → HoldsOpening opener.now s tag first bytes
         → (result ≡ 0) × (saved.new.mark ≡ opener.now.mark) × IsInSecondPass saved.new.state s tag first bytes }
+    ensures state { result ≡ 0 → saved.new.state ≡ opener_state opener.now.opener }
     ensures not_begun { NotIn checking opener.now → NotIn opening opener.now → result ≡ not_begun }
     ensures kept { result ≢ 0 → saved.new ≡ saved.old }
     ensures checks { (suite : Suite) → opener.now.mark ≡ checking + suite_number suite → result ≡ 0 }

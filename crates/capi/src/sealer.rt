@@ -8,7 +8,7 @@ ghost use Rattle.aead.specs.Suites.{construction_of, is_one_pass, text_limit, su
 ghost use Rattle.aead.specs.Sealing.{Setting, tag_of};
 ghost use Rattle.aead.specs.PassStates.{HoldsState};
 ghost use Rattle.aead.specs.KeyedPasses.{setting_of, BeginRefused};
-ghost use Rattle.aead.specs.KeyedPieces.{HoldsKeyedText, sealer_count};
+ghost use Rattle.aead.specs.KeyedPieces.{HoldsKeyedText, sealer_count, sealer_state};
 ghost use Rattle.capi.specs.Suites.{unknown_suite, not_begun, FitsOr};
 ghost use Rattle.capi.specs.Sealers.{sealer_mark, NotBegun, zeros, HoldsText, Updates};
 ghost use Rattle.capi.specs.Saved.{NotOfSealer, Resumes};
@@ -137,6 +137,7 @@ pub extern "C" fn aeadkit_sealer_finish(sealer: &mut StoredSealer, tag: &mut [u8
 pub extern "C" fn aeadkit_sealer_save(sealer: &StoredSealer, saved: &mut SavedSealer) -> u32
     ensures holds { (s : Setting) (text : List ℕ) → HoldsText sealer.now s text
         → (result ≡ 0) × (saved.new.mark ≡ sealer.now.mark) × HoldsState saved.new.state s text }
+    ensures state { result ≡ 0 → saved.new.state ≡ sealer_state sealer.now.sealer }
     ensures not_begun { NotBegun sealer.now → result ≡ not_begun }
     ensures kept { result ≢ 0 → saved.new ≡ saved.old }
     ensures status { (suite : Suite) → is_one_pass (construction_of suite) ≡ true

@@ -1,14 +1,14 @@
 //! The calls for C that seal a text in pieces in two readings, under AES-GCM-SIV (RFC 8452, 4): the first reading gives the tag,
 //! and the second one encrypts the text.
 
-ghost use Rattle.std.specs.Prelude.{◌≡◌, ◌≢◌, ◌+◌, ℕ, List, [], length, MatchResult, OnErr};
+ghost use Rattle.std.specs.Prelude.{◌≡◌, ◌≢◌, ◌+◌, ℕ, List, [], length, min, MatchResult, OnErr};
 ghost use Rattle.octets.specs.Numbers.{HasOutcome};
 ghost use Rattle.aead.specs.declared.suite.Suite.{Suite};
 ghost use Rattle.aead.specs.Suites.{ByGcmSiv, construction_of, text_limit, suite_number};
 ghost use Rattle.aead.specs.Sealing.{Setting};
 ghost use Rattle.aead.specs.Pieces.{IsInFirstReading, IsInSecondReading};
 ghost use Rattle.aead.specs.KeyedPasses.{setting_of, BeginRefused};
-ghost use Rattle.aead.specs.KeyedPieces.{HoldsFirstReading, siv_count};
+ghost use Rattle.aead.specs.KeyedPieces.{HoldsFirstReading, siv_count, siv_first, siv_state};
 ghost use Rattle.capi.specs.Suites.{unknown_suite, not_begun, FitsOr, IsDoneOr};
 ghost use Rattle.capi.specs.Sivs.{absorbing, writing, NotIn, zeros, HoldsAbsorbing, HoldsWriting};
 ghost use Rattle.capi.specs.Sivs.{Absorbs, BeginsSecond, Encrypts, Ends};
@@ -155,7 +155,9 @@ pub extern "C" fn aeadkit_siv_update(siv: &mut StoredSiv, piece: &mut [u8]) -> u
     ensures not_begun { NotIn writing siv.old → result ≡ not_begun }
     ensures kept { result ≢ 0 → (siv.new ≡ siv.old) × (piece.new ≡ piece.old) }
     ensures status { (suite : Suite) → construction_of suite ≡ ByGcmSiv
-        → siv.old.mark ≡ writing + suite_number suite → IsDoneOr Fault.SourceChanged result }
+        → siv.old.mark ≡ writing + suite_number suite
+        → FitsOr Fault.SourceChanged result (siv_count siv.old.siv) (length piece.old)
+        (min (siv_first siv.old.siv) (text_limit suite)) }
 {
     let Some(suite) = siv_marked(WRITING, siv.mark) else {
         return NOT_BEGUN;
@@ -193,6 +195,7 @@ pub extern "C" fn aeadkit_siv_save(siv: &StoredSiv, saved: &mut SavedPasses) -> 
         → (result ≡ 0) × (saved.new.mark ≡ siv.now.mark) × IsInFirstReading saved.new.state s text }
     ensures second { (s : Setting) (first text : List ℕ) → HoldsWriting siv.now s first text
         → (result ≡ 0) × (saved.new.mark ≡ siv.now.mark) × IsInSecondReading saved.new.state s first text }
+    ensures state { result ≡ 0 → saved.new.state ≡ siv_state siv.now.siv }
     ensures not_begun { NotIn absorbing siv.now → NotIn writing siv.now → result ≡ not_begun }
     ensures kept { result ≢ 0 → saved.new ≡ saved.old }
     ensures absorbs { (suite : Suite) → construction_of suite ≡ ByGcmSiv

@@ -1,13 +1,13 @@
 //! A key that a caller in C keeps in its memory, with the values that depend on the key alone.
 
-ghost use Rattle.std.specs.Prelude.{◌≡◌, ◌-◌, length, drop, replicate};
+ghost use Rattle.std.specs.Prelude.{◌≡◌, ◌-◌, length, drop, replicate, true};
 ghost use Rattle.aes.specs.Cipher.{IsKey, IsKeyLength};
-ghost use Rattle.aes.specs.Code.KeptWords.{KeepsSchedule};
-ghost use Rattle.gf128.specs.Code.PlainMultiples.{HasMultiples};
+ghost use Rattle.aes.specs.Code.ReadyKeys.{KeepsReadyKeys};
+ghost use Rattle.gf128.specs.Code.PlainMultiples.{HasMultiples, no_multiples};
 ghost use Rattle.aead.specs.declared.suite.Suite.{Suite};
-ghost use Rattle.aead.specs.Suites.{key_length};
+ghost use Rattle.aead.specs.Suites.{ByChaCha, ByGcm, ByGcmSiv, construction_of, key_length};
 ghost use Rattle.aead.specs.Sealing.{hash_key};
-ghost use Rattle.capi.specs.Keys.{key_mark, first_key};
+ghost use Rattle.capi.specs.Keys.{key_mark, first_key, has_aes, has_hash_key};
 
 use crate::suites::mark_of;
 use aead::{Suite, hash_subkey};
@@ -26,10 +26,10 @@ pub struct KeyNumbers {
     pub(crate) mark: u64,
     // The key, and zeros after it.
     pub(crate) key: [u8; 32],
-    // The schedule of AES under the key, and zeros after it. It is there whatever the suite is, and so are the fields that
-    // follow.
-    words: [u32; 60],
-    // The key of GHASH, and its multiples.
+    // The schedule of AES under the key, and zeros after it. Under ChaCha20-Poly1305 all of it is zeros.
+    ready_keys: [[u8; 16]; 15],
+    // The key of GHASH, and its multiples, under AES-GCM. Under ChaCha20-Poly1305 they are zeros, and also under AES-GCM-SIV, which
+    // derives another hash key for each nonce.
     ghash_key: [u8; 16],
     multiples: PlainMultiples,
 }
@@ -45,9 +45,31 @@ impl KeyNumbers {
         KeyNumbers {
             mark: 0,
             key: [0; 32],
-            words: [0; 60],
+            ready_keys: [[0; 16]; 15],
             ghash_key: [0; 16],
-            multiples: TableMul::none().plain_multiples(),
+            multiples: PlainMultiples::zeros(),
+        }
+    }
+
+    // Returns the numbers that keep a key, whose bytes have the suite's length, without the values that depend on it: zeros are in
+    // their place.
+    fn of_key(suite: Suite, key: &[u8]) -> KeyNumbers
+        requires { length key.now ≡ key_length suite }
+        ensures mark { result.mark ≡ key_mark suite }
+        ensures key { first_key suite result.key ≡ key.now }
+        ensures padded { drop (key_length suite) result.key ≡ replicate (32 - key_length suite) 0 }
+        ensures ready_keys { result.ready_keys ≡ replicate 15 (replicate 16 0) }
+        ensures ghash_key { result.ghash_key ≡ replicate 16 0 }
+        ensures multiples { result.multiples ≡ no_multiples }
+    {
+        let mut padded = [0; 32];
+        padded[..key.len()].copy_from_slice(key);
+        KeyNumbers {
+            mark: mark_of(KEY, suite),
+            key: padded,
+            ready_keys: [[0; 16]; 15],
+            ghash_key: [0; 16],
+            multiples: PlainMultiples::zeros(),
         }
     }
 }
@@ -60,41 +82,72 @@ fn expanded(bytes: &[u8]) -> AesKey
     AesKey::from_slice(bytes).unwrap()
 }
 
-/// A key of a suite with the values that depend on the key alone, in 808 bytes. The caller in C has to see to it that a struct
-/// with the mark of a suite is as `aeadkit_key_init` left it. A struct with any other mark is refused.
+/// A key of a suite with the values that the suite needs and that depend on the key alone, in 808 bytes: the schedule of AES if the
+/// suite has AES, and the key of GHASH and its multiples under AES-GCM. The others are zeros. The caller in C has to see to it that a
+/// struct with the mark of a suite is as `aeadkit_key_init` left it. A struct with any other mark is refused.
 #[repr(C)]
 #[derive(Clone, Copy)]
 pub struct StoredKey {
     pub(crate) numbers: KeyNumbers,
-    ghost schedule: { (suite : Suite) → numbers.mark ≡ key_mark suite
-        → KeepsSchedule numbers.words (first_key suite numbers.key) },
-    ghost hashes: { (suite : Suite) → numbers.mark ≡ key_mark suite
+    ghost ready: { (suite : Suite) → numbers.mark ≡ key_mark suite → has_aes (construction_of suite) ≡ true
+        → KeepsReadyKeys numbers.ready_keys (first_key suite numbers.key) },
+    ghost hashes: { (suite : Suite) → numbers.mark ≡ key_mark suite → has_hash_key (construction_of suite) ≡ true
         → numbers.ghash_key ≡ hash_key (first_key suite numbers.key) },
     ghost multiplied: { (suite : Suite) → numbers.mark ≡ key_mark suite
+        → has_hash_key (construction_of suite) ≡ true
         → HasMultiples numbers.multiples (hash_key (first_key suite numbers.key)) },
 }
 
 impl StoredKey {
-    ghost use Rattle.capi.specs.StoredKeys.{KeepsKey};
+    ghost use Rattle.capi.specs.StoredKeys.{IsOfKey};
+
+    // Makes the struct that keeps a key of ChaCha20-Poly1305, which needs nothing else.
+    fn of_chacha(suite: Suite, key: &[u8]) -> StoredKey
+        requires by { construction_of suite ≡ ByChaCha }
+        requires long { length key.now ≡ key_length suite }
+        ensures { IsOfKey result suite key.now }
+    {
+        let numbers = KeyNumbers::of_key(suite, key);
+        StoredKey { numbers }
+    }
+
+    // Makes the struct that keeps a key of AES-GCM, with the schedule, the key of GHASH and its multiples.
+    fn of_gcm(suite: Suite, key: &[u8]) -> StoredKey
+        requires by { construction_of suite ≡ ByGcm }
+        requires long { length key.now ≡ key_length suite }
+        ensures { IsOfKey result suite key.now }
+    {
+        let mut numbers = KeyNumbers::of_key(suite, key);
+        let aes = expanded(key);
+        let ghash_key = hash_subkey(&aes);
+        numbers.ready_keys = aes.ready_keys();
+        let bytes = *ghash_key.bytes();
+        numbers.ghash_key = bytes;
+        numbers.multiples = TableMul::of(&ghash_key).plain_multiples();
+        StoredKey { numbers }
+    }
+
+    // Makes the struct that keeps a key of AES-GCM-SIV, with the schedule.
+    fn of_siv(suite: Suite, key: &[u8]) -> StoredKey
+        requires by { construction_of suite ≡ ByGcmSiv }
+        requires long { length key.now ≡ key_length suite }
+        ensures { IsOfKey result suite key.now }
+    {
+        let mut numbers = KeyNumbers::of_key(suite, key);
+        numbers.ready_keys = expanded(key).ready_keys();
+        StoredKey { numbers }
+    }
 
     // Makes the struct that keeps a key, whose bytes have the suite's length.
     pub(crate) fn new(suite: Suite, key: &[u8]) -> StoredKey
         requires { length key.now ≡ key_length suite }
-        ensures keeps { KeepsKey result suite key.now }
-        ensures padded { drop (key_length suite) result.numbers.key ≡ replicate (32 - key_length suite) 0 }
+        ensures { IsOfKey result suite key.now }
     {
-        let mut padded = [0; 32];
-        padded[..key.len()].copy_from_slice(key);
-        let aes = expanded(key);
-        let ghash_key = hash_subkey(&aes);
-        let numbers = KeyNumbers {
-            mark: mark_of(KEY, suite),
-            key: padded,
-            words: aes.words(),
-            ghash_key: *ghash_key.bytes(),
-            multiples: TableMul::of(&ghash_key).plain_multiples(),
-        };
-        StoredKey { numbers }
+        match suite {
+            Suite::ChaCha20Poly1305 => StoredKey::of_chacha(suite, key),
+            Suite::Aes128Gcm | Suite::Aes192Gcm | Suite::Aes256Gcm => StoredKey::of_gcm(suite, key),
+            Suite::Aes128GcmSiv | Suite::Aes256GcmSiv => StoredKey::of_siv(suite, key),
+        }
     }
 
     // Returns the bytes of the key, as many as the suite's keys have.
@@ -105,29 +158,35 @@ impl StoredKey {
         &self.numbers.key[..suite.key_length()]
     }
 
-    // Returns AES under the key.
+    // Returns AES under the key, if the suite has AES.
     #[inline(always)]
     pub(crate) fn aes(&self, suite: Suite) -> AesKey
         requires marked { self.now.numbers.mark ≡ key_mark suite }
+        requires has { has_aes (construction_of suite) ≡ true }
         ensures value { result ≡ first_key suite self.now.numbers.key }
         ensures is_key { IsKey (first_key suite self.now.numbers.key) }
     {
-        AesKey::from_words(&self.numbers.words, &self.numbers.key[..suite.key_length()])
+        AesKey::from_ready_keys(
+            &self.numbers.ready_keys,
+            &self.numbers.key[..suite.key_length()],
+        )
     }
 
-    // Returns the key of GHASH.
+    // Returns the key of GHASH, under AES-GCM.
     #[inline(always)]
     pub(crate) fn ghash_key(&self, suite: Suite) -> Block
         requires marked { self.now.numbers.mark ≡ key_mark suite }
+        requires has { has_hash_key (construction_of suite) ≡ true }
         ensures { result ≡ hash_key (first_key suite self.now.numbers.key) }
     {
         Block::new(self.numbers.ghash_key)
     }
 
-    // Returns the multiplier by the key of GHASH.
+    // Returns the multiplier by the key of GHASH, under AES-GCM.
     #[inline(always)]
     pub(crate) fn multiplier<'a>(&'a self, suite: Suite) -> PlainMul<'a>
         requires marked { self.now.numbers.mark ≡ key_mark suite }
+        requires has { has_hash_key (construction_of suite) ≡ true }
         ensures { ⟦<PlainMul<'a> as Multiply>⟧.key_bytes result
             ≡ hash_key (first_key suite self.now.numbers.key) }
     {

@@ -1,8 +1,8 @@
-use Rattle.std.proofs.Common.{◌≡◌, ◌-◌, ◌∙◌, drop, replicate, refl, sym, ap, subst, Ok, Err}
+use Rattle.std.proofs.Common.{◌≡◌, ◌∙◌, refl, sym, ap, subst, Ok, Err}
 use Rattle.std.proofs.lemmas.Option.{same_Some}
 use Rattle.octets.specs.declared.fault.Fault.TheVariants.{KeyLength}
 use Rattle.aead.specs.Suites.{key_length}
-use Rattle.capi.specs.StoredKeys.{KeepsKey}
+use Rattle.capi.specs.StoredKeys.{KeepsKey, HasZeros}
 use Rattle.capi.proofs.key.aeadkit_key_init.Goals as goal
 
 pub returns-then-key-key_length-clause-known : goal.returns-then-key-key_length-clause-known
@@ -23,8 +23,7 @@ returns-clause-known c = λ named is.
         c.outcome_number-2.ensures,
         record {
           keeps = (c.new.result, (refl, subst (λ x. KeepsKey c.new.result x c.args.key.now) same c.new.ensures.keeps));
-          padded = subst (λ x. drop (key_length x) c.new.result.numbers.key ≡ replicate (32 - key_length x) 0) same
-              c.new.ensures.padded;
+          zeros = subst (HasZeros c.new.result.numbers) same c.new.ensures.zeros;
         },
       ),
     )

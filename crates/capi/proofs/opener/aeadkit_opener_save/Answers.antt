@@ -18,3 +18,6 @@ returns-in_default-clause-first c = λ s tag bytes h.
 pub returns-in_default-clause-second : goal.returns-in_default-clause-second
 returns-in_default-clause-second c = λ s tag first bytes h.
     absurd (none-some s.suite (c.in_default.ensures.second s.suite h.mark_is))
+
+pub returns-clause-state : goal.returns-clause-state
+returns-clause-state c = λ done. c.state.ensures.value

@@ -1,5 +1,8 @@
-use Rattle.std.proofs.Common.{◌≡◌, refl, sym}
+use Rattle.std.proofs.Common.{◌≡◌, refl, sym, subst, length, min}
 use Rattle.std.proofs.lemmas.Option.{none-some, same_Some}
+use Rattle.octets.specs.declared.fault.Fault.TheVariants.{SourceChanged}
+use Rattle.aead.specs.Suites.{text_limit}
+use Rattle.aead.specs.KeyedPieces.{FitsIn, opener_count, opener_first}
 use Rattle.capi.proofs.Outcomes.{done_as}
 use Rattle.capi.proofs.opener.aeadkit_opener_update.Goals as goal
 
@@ -23,4 +26,12 @@ returns-clause-not_begun c = λ none.
     absurd (none c.in-Some.suite ((c.in-Some.ensures c.in-Some.suite).0 refl))
 
 pub returns-clause-status : goal.returns-clause-status
-returns-clause-status c = λ suite is. (c.update.result, (c.outcome_number.ensures, c.update.ensures.fault))
+returns-clause-status c = λ suite is.
+    let same : c.in-Some.suite ≡ suite = same_Some _ _ ((c.in-Some.ensures suite).1 is) in (
+      c.update.result,
+      (
+        c.outcome_number.ensures,
+        subst (λ x. FitsIn SourceChanged c.update.result (opener_count c.args.opener.now.opener) (length c.args.piece.now)
+            (min (opener_first c.args.opener.now.opener) (text_limit x))) same c.update.ensures.fault,
+      ),
+    )

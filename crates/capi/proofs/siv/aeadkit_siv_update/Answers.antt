@@ -1,5 +1,8 @@
-use Rattle.std.proofs.Common.{◌≡◌, refl, sym}
+use Rattle.std.proofs.Common.{◌≡◌, refl, sym, subst, length, min}
 use Rattle.std.proofs.lemmas.Option.{same_Some}
+use Rattle.octets.specs.declared.fault.Fault.TheVariants.{SourceChanged}
+use Rattle.aead.specs.Suites.{text_limit}
+use Rattle.aead.specs.KeyedPieces.{FitsIn, siv_count, siv_first}
 use Rattle.capi.proofs.Outcomes.{done_as}
 use Rattle.capi.proofs.siv.aeadkit_siv_update.Goals as goal
 
@@ -21,4 +24,12 @@ returns-clause-not_begun c = λ none.
     absurd (none c.in-Some.suite found.0 found.1)
 
 pub returns-clause-status : goal.returns-clause-status
-returns-clause-status c = λ suite by is. (c.update.result, (c.outcome_number.ensures, c.update.ensures.fault))
+returns-clause-status c = λ suite by is.
+    let same : c.in-Some.suite ≡ suite = same_Some _ _ ((c.in-Some.ensures suite).1 (by, is)) in (
+      c.update.result,
+      (
+        c.outcome_number.ensures,
+        subst (λ x. FitsIn SourceChanged c.update.result (siv_count c.args.siv.now.siv) (length c.args.piece.now)
+            (min (siv_first c.args.siv.now.siv) (text_limit x))) same c.update.ensures.fault,
+      ),
+    )
