@@ -6,7 +6,7 @@ ghost use Rattle.octets.specs.Bytes.{xor_bytes};
 use std::simd::Simd;
 use std::simd::prelude::*;
 
-/// Returns whether two arrays of 16 bytes are equal. Not constant time: the time may depend on the bytes.
+/// Returns whether two arrays of 16 bytes are equal. No proof says that the time does not tell where they differ.
 pub fn same(a: &[u8; 16], b: &[u8; 16]) -> bool
     ensures { (result ≡ true) ↔ (a.now ≡ b.now) }
 {

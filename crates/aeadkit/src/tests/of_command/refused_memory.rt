@@ -19,6 +19,9 @@ use std::io::BufReader;
 use std::process::Abort;
 use std::str::from_utf8;
 
+// How many bytes of a file are read ahead.
+const AHEAD: usize = 256;
+
 // Files in memory whose calls allocate: each open does, for a buffer, and so does the creation of the output file.
 #[derive(Drop)]
 struct AllocatingFiles<'b, 'l, 'm, A: Allocator> {
@@ -48,7 +51,7 @@ impl<'b, 'l, 'm, A: Allocator> Storage for AllocatingFiles<'b, 'l, 'm, A> {
     ) -> io::Result<FromRead<BufReader<Source<'b, 'l>, &'m A>>> {
         allocate(self.memory)?;
         let source = self.files.source(reading)?;
-        Ok(FromRead::new(BufReader::with_capacity(self.memory, 65536, source)?))
+        Ok(FromRead::new(BufReader::with_capacity(self.memory, AHEAD, source)?))
     }
 
     fn create(&self, path: &str) -> io::Result<ToWrite<Sink<'l>>> {
@@ -144,26 +147,49 @@ fn runs(
     (due, taken(&memory, room))
 }
 
-// Performs a request with each of its requests for memory refused in turn, from the last to the first. If the last one
-// is refused, the status is `last`.
-fn each_is_refused(rt: &(impl Abort + Alloc<A = Global>), case: &Case<'_>, last: u8) {
-    let (_, needed) = runs(rt, case, AMPLE, false);
-    let mut room = smaller(AMPLE, needed);
+// Performs a request in an ample room of each alignment, and returns how much of each room was taken.
+fn needs(rt: &(impl Abort + Alloc<A = Global>), case: &Case<'_>) -> [usize; 16] {
+    let mut needs = [0; 16];
+    for (room, needed) in needs.iter_mut().enumerate() {
+        let (_, taken) = runs(rt, case, ample(room), false);
+        *needed = taken;
+    }
+    needs
+}
+
+// Performs a request in smaller and smaller rooms, and returns the status of the first that refuses a request for
+// memory. They begin `skipped` bytes below the room that holds all that is taken, and end once they are smaller by
+// `tried` bytes, or at 0. Each request for memory that comes in between is refused in turn, from the last to the first.
+fn status_of_first(
+    rt: &(impl Abort + Alloc<A = Global>),
+    case: &Case<'_>,
+    skipped: usize,
+    tried: usize,
+) -> Option<u8> {
+    let needs = needs(rt, case);
+    let mut room = smaller(AMPLE, needs[0]).saturating_sub(skipped);
+    let end = room.saturating_sub(tried);
     let mut first_status = None;
     for _ in 0..100_000u32 {
-        let (_, needed) = runs(rt, case, ample(room), false);
-        let is_refused = room < needed;
+        let is_refused = room < needs[room % 16];
         let (status, taken) = runs(rt, case, room, is_refused);
         if is_refused && first_status.is_none() {
             first_status = Some(status);
         }
-        if room == 0 {
+        if room <= end {
             break;
         }
         room = smaller(room, taken);
     }
-    shows(rt, room == 0, "the first request");
-    shows(rt, first_status == Some(last), "the last request");
+    shows(rt, room <= end, "the first request");
+    first_status
+}
+
+// Performs a request with each of its requests for memory refused in turn, from the last to the first. If the last one
+// is refused, the status is `last`.
+fn each_is_refused(rt: &(impl Abort + Alloc<A = Global>), case: &Case<'_>, last: u8) {
+    let status = status_of_first(rt, case, 0, AMPLE);
+    shows(rt, status == Some(last), "the last request");
 }
 
 // Performs a request that reads this file and prints a line, with each of its requests for memory refused in turn.
@@ -216,16 +242,39 @@ fn wrapping_and_unwrapping(rt: HostRuntime) {
     }
 }
 
-// A file of two records, and one of 18 records, the fifth of which disagrees.
 #[test]
-fn checking(rt: HostRuntime) {
+fn checking_two_records(rt: HostRuntime) {
     let request = PrintRequest::Check { path: "" };
     prints(&rt, request, TWO_RECORDS.as_bytes(), 0, "records 2");
-    let file = published(&rt, "2");
-    let text = from_utf8(&file).expect(&rt, "text");
-    let fifth = with_lines(&rt, text, "31|invalid\n");
-    let request = PrintRequest::Check { path: "" };
-    prints(&rt, request, &fifth, 1, "records 18\nbad 5");
+}
+
+// Checks a file of 18 records, the fifth of which disagrees, in these rooms.
+fn finds_bad_record(rt: &(impl Abort + Alloc<A = Global>), skipped: usize, tried: usize) {
+    let file = published(rt, "2");
+    let text = from_utf8(&file).expect(rt, "text");
+    let fifth = with_lines(rt, text, "31|invalid\n");
+    let case = Case {
+        request: Request::Print(PrintRequest::Check { path: "" }),
+        from: &fifth,
+        status: 1,
+        line: "records 18\nbad 5",
+        to: &[],
+    };
+    let status = status_of_first(rt, &case, skipped, tried);
+    shows(rt, status == Some(4), "a request");
+}
+
+// Each room takes a while, so there are two tests, which share the rooms about evenly.
+const SHARE: usize = 160;
+
+#[test]
+fn finding_a_bad_record_in_large_rooms(rt: HostRuntime) {
+    finds_bad_record(&rt, 0, SHARE);
+}
+
+#[test]
+fn finding_a_bad_record_in_small_rooms(rt: HostRuntime) {
+    finds_bad_record(&rt, SHARE, AMPLE);
 }
 
 // Seals a file with a vector's text, or opens one with its sealed bytes. The last request for memory comes from the
