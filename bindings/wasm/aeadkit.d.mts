@@ -76,7 +76,7 @@ export interface Options {
  * part of a buffer pass `buffer.subarray(0, length)`. A TransformStream drops what a method by itself returns, such as the tag:
  * write `flush: (controller) => controller.enqueue(sealer.finish())`.
  *
- * The time of a call may depend on secrets: AES, and the hashes of AES-GCM and AES-GCM-SIV, look up tables by secret bytes. A call
+ * Nothing is claimed about timing: the engine compiles the module, and what it makes of it was not looked at. A call
  * leaves zeros where its arguments and results stood in the module's memory, but not on the module's stack. The arrays that you
  * pass or get are not wiped.
  */

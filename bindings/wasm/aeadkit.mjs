@@ -5,7 +5,7 @@
 // if it is left out. A call that fails throws one of the classes of Refused; aeadkit.d.mts says which, and what it means.
 //
 // Never use a nonce twice under one key: nothing here notices it, and aeadkit.d.mts says what it gives away. Nothing is claimed
-// about timing: AES, and the hashes of AES-GCM and AES-GCM-SIV, look up tables by secret bytes. A call leaves zeros where
+// about timing: the engine compiles the module, and what it makes of it was not looked at. A call leaves zeros where
 // its arguments and results stood in the module's memory, but not on the module's stack. A Key and the states in pieces hold
 // their structs until they are wiped or finished. The memories have 64-bit addresses.
 
