@@ -4,13 +4,13 @@ use Rattle.std.proofs.Common.{◌∷◌, get_or, length, refl, sym, ap, ap₂, �
 use Rattle.std.specs.Int.Bits.{xor_comm, xor_assoc}
 use Rattle.std.proofs.lemmas.Nat.{xor_shr, xor_mod, xor_of_8}
 use Rattle.std.proofs.lemmas.Bool.{eqb-true}
-use Rattle.std.proofs.lemmas.List.{get_or-map, length-map, ext_get_or}
+use Rattle.std.proofs.lemmas.List.{ext_get_or}
 use Rattle.std.proofs.lemmas.List.FromFn.{get_or-map-range_with_len}
 use Rattle.aes.specs.Field.{times, sbox}
 use Rattle.aes.specs.Cipher.{at, grid, column, sub_bytes, shift_rows, add_round_key}
 use Rattle.aes.specs.Code.InverseSteps.{unmix_column, inverse_mix_columns, round_key}
 use Rattle.aes.specs.Code.InverseLanes.{HasSixteen, find, row_below, unshifted_from, mix_of, u_at, t_at, by_inverse, matrix_undone}
-use Rattle.aes.specs.Code.InverseLanes.{affine_undone, undone}
+use Rattle.aes.specs.Code.InverseLanes.{affine_undone, HoldsUndone}
 use Rattle.aes.specs.declared.sbox.TheConstants.{SBOX}
 use Rattle.aes.specs.declared.inverse_lanes.TheConstants.{UNDONE_LOW, UNDONE_HIGH, PLAIN_BY_FIRST}
 use Rattle.aes.specs.declared.inverse_lanes.TheConstants.{PLAIN_BY_SECOND, FOURTEEN_BY_FIRST, FOURTEEN_BY_SECOND}
@@ -24,7 +24,7 @@ use Rattle.aes.proofs.FieldFacts.{times_comm}
 use Rattle.aes.proofs.Sums.{times_xor, xor_exchange}
 use Rattle.aes.proofs.Multiples.{product_of, times_is}
 use Rattle.aes.proofs.Rows.{dot_is}
-use Rattle.aes.proofs.Steps.{at_grid, times_small, unmix_block, unsbox, unsbox_sbox}
+use Rattle.aes.proofs.Steps.{at_grid, times_small, unsbox, unsbox_sbox}
 use Rattle.aes.proofs.InverseLanes.{same_sixteen}
 
 -- two functions that are tested to agree at each byte do
@@ -232,6 +232,10 @@ turned : (a b c d : ℕ) → mix_of a b c d ≡ mix_of b c d a
 turned a b c d =
     xor_comm a (bit_xor b (bit_xor c d)) ∙ xor_assoc b (bit_xor c d) a ∙ ap (bit_xor b) (xor_assoc c d a)
 
+-- InvShiftRows moves bytes from places below 16
+pub unshifted_small : (i : ℕ) → unshifted_from i < 16
+unshifted_small i = omega arith
+
 -- row r of a column after InvMixColumns, from that row and the rows below it
 unmixed_row : (g : ℕ → ℕ) (r : ℕ) → r < 4
     → get_or (unmix_column (g 0 ∷ g 1 ∷ g 2 ∷ g 3 ∷ [])) r 0
@@ -279,56 +283,42 @@ unmixed_byte s i l =
 
 -- lanes that are the sums of the multiples in the basis, and a key, are `unmixed` in the basis, and the key
 pub mixed_lanes : (v a b c d k : List ℕ) (s key : ℕ → ℕ)
-    → HasSixteen v (λ i. bit_xor (mix_of (get_or a i 0) (get_or b (row_below 1 i) 0) (get_or c (row_below 2 i) 0)
-    (get_or d (row_below 3 i) 0)) (get_or k i 0))
+    → HasSixteen v (λ i. bit_xor (mix_of (get_or a (unshifted_from i) 0) (get_or b (row_below 1 (unshifted_from i)) 0)
+    (get_or c (row_below 2 (unshifted_from i)) 0) (get_or d (row_below 3 (unshifted_from i)) 0)) (get_or k i 0))
     → HasSixteen a (λ i. matrix_undone (times 14 (s i))) → HasSixteen b (λ i. matrix_undone (times 11 (s i)))
     → HasSixteen c (λ i. matrix_undone (times 13 (s i))) → HasSixteen d (λ i. matrix_undone (times 9 (s i)))
-    → HasSixteen k key → HasSixteen v (λ i. bit_xor (matrix_undone (unmixed s i)) (key i))
+    → HasSixteen k key → HasSixteen v (λ i. bit_xor (matrix_undone (unmixed s (unshifted_from i))) (key i))
 unfolding unmixed
 mixed_lanes v a b c d k s key made ha hb hc hd hk =
-    same_sixteen v made (λ i l.
-    ap₂ bit_xor
-    (ap₂ bit_xor (ha.each i l)
-    (ap₂ bit_xor (hb.each (row_below 1 i) (omega arith))
-    (ap₂ bit_xor (hc.each (row_below 2 i) (omega arith)) (hd.each (row_below 3 i) (omega arith))))
-    ∙ mix_undone (times 14 (s i)) (times 11 (s (row_below 1 i))) (times 13 (s (row_below 2 i)))
-    (times 9 (s (row_below 3 i))) (times_small 14 (s i)) (times_small 11 (s (row_below 1 i)))
-    (times_small 13 (s (row_below 2 i))) (times_small 9 (s (row_below 3 i))))
-    (hk.each i l))
+    let at : (j : ℕ) → j < 16
+    → mix_of (get_or a j 0) (get_or b (row_below 1 j) 0) (get_or c (row_below 2 j) 0) (get_or d (row_below 3 j) 0)
+    ≡ matrix_undone (unmixed s j) = λ j l.
+    ap₂ bit_xor (ha.each j l)
+    (ap₂ bit_xor (hb.each (row_below 1 j) (omega arith))
+    (ap₂ bit_xor (hc.each (row_below 2 j) (omega arith)) (hd.each (row_below 3 j) (omega arith))))
+    ∙ mix_undone (times 14 (s j)) (times 11 (s (row_below 1 j))) (times 13 (s (row_below 2 j)))
+    (times 9 (s (row_below 3 j))) (times_small 14 (s j)) (times_small 11 (s (row_below 1 j)))
+    (times_small 13 (s (row_below 2 j))) (times_small 9 (s (row_below 3 j))) in
+    same_sixteen v made (λ i l. ap₂ bit_xor (at (unshifted_from i) (unshifted_small i)) (hk.each i l))
 
 -- ---- whole blocks
--- a vector is a block with the affine map undone if its lanes are
-pub is_undone : (v b : List ℕ) → length b ≡ 16 → HasSixteen v (λ i. affine_undone (get_or b i 0)) → v ≡ undone b
-is_undone v b long held =
-    ext_get_or 0 v (undone b) (held.long ∙ sym (length-map b (λ x. affine_undone x) ∙ long)) (λ i l.
-    let within : i < 16 = omega (arith, held.long) in
-    held.each i within ∙ sym (get_or-map (λ x. affine_undone x) b i 0 0 (omega arith)))
-
--- the bytes of a block with the affine map undone
-pub undone_at : (v b : List ℕ) (i : ℕ) → length b ≡ 16 → v ≡ undone b → i < 16
-    → get_or v i 0 ≡ affine_undone (get_or b i 0)
-undone_at v b i long e l = ap (λ x. get_or x i 0) e ∙ get_or-map (λ x. affine_undone x) b i 0 0 (omega arith)
-
 -- a vector is a block if its lanes are the bytes
 pub is_block : (v b : List ℕ) → length b ≡ 16 → HasSixteen v (λ i. get_or b i 0) → v ≡ b
 is_block v b long held =
     ext_get_or 0 v b (held.long ∙ sym long) (λ i l. held.each i (omega (arith, held.long)))
 
--- lanes that InvShiftRows brings from a state after SubBytes and ShiftRows are S-box values with the affine map undone
-pub back_lanes : (v x s : List ℕ) → HasSixteen v (λ i. get_or x (unshifted_from i) 0)
-    → x ≡ undone (shift_rows (sub_bytes s)) → HasSixteen v (λ i. affine_undone (sbox (get_or s i 0)))
-unfolding shift_rows
-back_lanes v x s made e =
-    same_sixteen v made (λ i l.
-    undone_at x (shift_rows (sub_bytes s)) (unshifted_from i) refl e (omega arith)
-    ∙ ap (λ (y : ℕ). affine_undone y) (back_byte s i l))
+-- a state after SubBytes and ShiftRows holds S-box values with the affine map undone
+pub back_lanes : (x s : List ℕ) → HoldsUndone x (shift_rows (sub_bytes s))
+    → HasSixteen x (λ i. affine_undone (sbox (get_or s i 0)))
+back_lanes x s held = same_sixteen x held (λ i l. ap (λ (y : ℕ). affine_undone y) (back_byte s i l))
 
--- a round key after InvMixColumns, in the basis
-pub middle_is : (v x : List ℕ) → HasSixteen v (λ i. bit_xor (matrix_undone (unmixed (λ k. get_or x k 0) i)) 0x12)
-    → v ≡ undone (inverse_mix_columns x)
+-- a round key after InvMixColumns, in the form in which the state is kept
+pub middle_is : (v x : List ℕ)
+    → HasSixteen v (λ i. bit_xor (matrix_undone (unmixed (λ k. get_or x k 0) (unshifted_from i))) 0x12)
+    → HoldsUndone v (inverse_mix_columns x)
 middle_is v x held =
-    is_undone v (inverse_mix_columns x) (unmix_block x).length_is
-    (same_sixteen v held (λ i l. ap (λ (y : ℕ). affine_undone y) (sym (unmixed_byte x i l))))
+    same_sixteen v held (λ i l.
+    ap (λ (y : ℕ). affine_undone y) (sym (unmixed_byte x (unshifted_from i) (unshifted_small i))))
 
 -- the sum of the multiples of a state and of a round key is the sum of the multiples of both
 unmixed_sum : (s : List ℕ) (ws : List (List ℕ)) (n i : ℕ) → i < 16
@@ -356,18 +346,21 @@ unmixed_small s i =
     (xor_of_8 (times 13 (s (row_below 2 i))) (times 9 (s (row_below 3 i))) (times_small 13 (s (row_below 2 i)))
     (times_small 9 (s (row_below 3 i)))))
 
--- the sum of the multiples of a state and a round key after InvMixColumns is AddRoundKey and then InvMixColumns, in the basis
-pub round_is : (v k s : List ℕ) (ws : List (List ℕ)) (n : ℕ) → k ≡ undone (inverse_mix_columns (round_key ws n))
-    → HasSixteen v (λ i. bit_xor (matrix_undone (unmixed (λ k. get_or s k 0) i)) (get_or k i 0))
-    → v ≡ undone (inverse_mix_columns (add_round_key ws n s))
+-- the sum of the multiples of a state and a round key after InvMixColumns is AddRoundKey and then InvMixColumns
+pub round_is : (v k s : List ℕ) (ws : List (List ℕ)) (n : ℕ) → HoldsUndone k (inverse_mix_columns (round_key ws n))
+    → HasSixteen v (λ i. bit_xor (matrix_undone (unmixed (λ k. get_or s k 0) (unshifted_from i))) (get_or k i 0))
+    → HoldsUndone v (inverse_mix_columns (add_round_key ws n s))
 round_is v k s ws n e held =
     let key : List ℕ = round_key ws n in
     let x : ℕ → ℕ = λ i. unmixed (λ k. get_or s k 0) i in
     let y : ℕ → ℕ = λ i. unmixed (λ k. get_or key k 0) i in
-    middle_is v (add_round_key ws n s) (same_sixteen v held (λ i l.
-    ap (bit_xor (matrix_undone (x i))) (undone_at k (inverse_mix_columns key) i (unmix_block key).length_is e l
-    ∙ ap (λ (z : ℕ). affine_undone z) (unmixed_byte key i l))
-    ∙ sym (xor_assoc (matrix_undone (x i)) (matrix_undone (y i)) 0x12)
+    let sums : (j : ℕ) → j < 16 → bit_xor (matrix_undone (x j)) (affine_undone (y j))
+    ≡ affine_undone (unmixed (λ k. get_or (add_round_key ws n s) k 0) j) = λ j l.
+    sym (xor_assoc (matrix_undone (x j)) (matrix_undone (y j)) 0x12)
     ∙ ap (λ (z : ℕ). bit_xor z 0x12)
-    (undone_xor (x i) (y i) (unmixed_small (λ k. get_or s k 0) i) (unmixed_small (λ k. get_or key k 0) i)
-    ∙ ap matrix_undone (unmixed_sum s ws n i l))))
+    (undone_xor (x j) (y j) (unmixed_small (λ k. get_or s k 0) j) (unmixed_small (λ k. get_or key k 0) j)
+    ∙ ap matrix_undone (unmixed_sum s ws n j l)) in
+    middle_is v (add_round_key ws n s) (same_sixteen v held (λ i l.
+    ap (bit_xor (matrix_undone (x (unshifted_from i))))
+    (e.each i l ∙ ap (λ (z : ℕ). affine_undone z) (unmixed_byte key (unshifted_from i) (unshifted_small i)))
+    ∙ sums (unshifted_from i) (unshifted_small i)))

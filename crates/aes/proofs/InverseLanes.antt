@@ -3,10 +3,10 @@ use Rattle.std.proofs.Common.{◌≡◌, ℕ, zero, suc, ◌+◌, ◌-◌, ◌*�
 use Rattle.std.proofs.Common.{◌&&◌, ◌||◌, ◌==◌, T, ltb, leb, nat_lt, nat_le, List, [], ◌∷◌, ◌++◌, map, get_or, length}
 use Rattle.std.proofs.Common.{replicate, refl, sym, ap, ap₂, subst, ◌∙◌, arith, rules, bit_and, bit_xor, w8, Fits, ltb-true, leb-true, ltb-false, leb-false}
 use Rattle.std.proofs.Common.{inl, inr}
-use Rattle.std.proofs.Math.Nat.{div-le_self, mod-lt}
+use Rattle.std.proofs.Math.Nat.{mod-lt}
 use Rattle.std.proofs.lemmas.Nat.{xor_mod, xor_of_8, xor_lt, and_mask}
 use Rattle.std.proofs.lemmas.Bool.{and_parts, eqb-true, cases_lt}
-use Rattle.std.proofs.lemmas.List.{get_or-map, get_or_append_left, get_or-replicate, length-replicate}
+use Rattle.std.proofs.lemmas.List.{get_or-map, length-map, get_or_append_left, get_or-replicate, length-replicate}
 use Rattle.std.proofs.lemmas.Simd.{Each1-from_get_or, length-zip2, get_or-zip2, swz_l, SwzOk, SwzOk-from_Each1}
 use Rattle.std.proofs.lemmas.Simd.{length-swz_l, get_or-swz_l, get_or_wider, get_or_narrower, get_or-chunk, length-chunk}
 use lib.Lanes.{zip2, Each1, chunk, number_l, digits_l}
@@ -140,72 +140,57 @@ found t at long = record {
 abbrev sources : List ℕ
 sources = 0 ∷ 13 ∷ 10 ∷ 7 ∷ 4 ∷ 1 ∷ 14 ∷ 11 ∷ 8 ∷ 5 ∷ 2 ∷ 15 ∷ 12 ∷ 9 ∷ 6 ∷ 3 ∷ []
 
--- the indices of the code are `unshifted_from`, tested at each place
-sources_computed : all_below (λ i. (get_or sources i 0 == unshifted_from i) && ltb (get_or sources i 0) 16) 16 ≡ true
-sources_computed = refl
+abbrev next_sources : List ℕ
+next_sources = 1 ∷ 14 ∷ 11 ∷ 4 ∷ 5 ∷ 2 ∷ 15 ∷ 8 ∷ 9 ∷ 6 ∷ 3 ∷ 12 ∷ 13 ∷ 10 ∷ 7 ∷ 0 ∷ []
 
--- picking lanes at those indices gives each lane that of `unshifted_from`
+-- whether item i of a list of indices is that of a function, and an index below 16
+abbrev is_source : List ℕ → (ℕ → ℕ) → ℕ → Bool
+is_source p f i = (get_or p i 0 == f i) && ltb (get_or p i 0) 16
+
+-- picking lanes at sixteen indices gives each lane that of a function, if the indices were tested to be that function's
+picked : (p : List ℕ) (f : ℕ → ℕ) (x : List ℕ) → length x ≡ 16 → length p ≡ 16 → all_below (is_source p f) 16 ≡ true
+    → HasSixteen (map (λ p. get_or (x ++ x) p 0) p) (λ i. get_or x (f i) 0)
+picked p f x hx hp test = record {
+  long = length-map p (λ p. get_or (x ++ x) p 0) ∙ hp;
+  each = λ k l.
+      let both = and_parts (get_or p k 0 == f k) (ltb (get_or p k 0) 16) (all_below_at (is_source p f) 16 k test l) in
+      let small : get_or p k 0 < 16 = ltb-true (get_or p k 0) 16 both.1 in
+      get_or-map (λ p. get_or (x ++ x) p 0) p k 0 0 (omega arith)
+      ∙ get_or_append_left x x 0 (get_or p k 0) (omega arith)
+      ∙ ap (λ p. get_or x p 0) (eqb-true (get_or p k 0) (f k) both.0);
+}
+
+-- picking lanes at the indices of the code gives each lane that of `unshifted_from`
 pub unshifted : (x : List ℕ) → length x ≡ 16
     → HasSixteen (map (λ p. get_or (x ++ x) p 0) sources) (λ i. get_or x (unshifted_from i) 0)
-unshifted x hx = record {
-  long = refl;
-  each = λ k l.
-      let both = and_parts (get_or sources k 0 == unshifted_from k) (ltb (get_or sources k 0) 16)
-      (all_below_at (λ i. (get_or sources i 0 == unshifted_from i) && ltb (get_or sources i 0) 16) 16 k sources_computed l)
-      in
-      let small : get_or sources k 0 < 16 = ltb-true (get_or sources k 0) 16 both.1 in
-      get_or-map (λ p. get_or (x ++ x) p 0) sources k 0 0 l
-      ∙ get_or_append_left x x 0 (get_or sources k 0) (omega arith)
-      ∙ ap (λ p. get_or x p 0) (eqb-true (get_or sources k 0) (unshifted_from k) both.0);
-}
+unshifted x hx = picked sources (λ i. unshifted_from i) x hx refl refl
+
+-- picking lanes at the other indices of the code gives each lane that of the row below
+pub unshifted_next : (x : List ℕ) → length x ≡ 16
+    → HasSixteen (map (λ p. get_or (x ++ x) p 0) next_sources) (λ i. get_or x (row_below 1 (unshifted_from i)) 0)
+unshifted_next x hx = picked next_sources (λ i. row_below 1 (unshifted_from i)) x hx refl refl
 
 -- the number that four bytes spell
 abbrev word : ℕ → ℕ → ℕ → ℕ → ℕ
 word a b c d = a + 256 * (b + 256 * (c + 256 * (d + 0)))
 
--- byte r of a word that is shifted right by m bytes is byte r + m, or 0
-shifted_right : (a b c d m r : ℕ) → a < 256 × (b < 256) × (c < 256) × (d < 256) → m < 4 → r < 4
-    → word a b c d / 2 ^ (8 * m) / 256 ^ r % 256 ≡ cond (nat_lt (r + m) 4) (get_or (a ∷ b ∷ c ∷ d ∷ []) (r + m) 0) 0
-shifted_right a b c d zero zero h hm hr = omega (arith, h.0, h.1, h.2, h.3)
-shifted_right a b c d zero (suc zero) h hm hr = omega (arith, h.0, h.1, h.2, h.3)
-shifted_right a b c d zero (suc (suc zero)) h hm hr = omega (arith, h.0, h.1, h.2, h.3)
-shifted_right a b c d zero (suc (suc (suc zero))) h hm hr = omega (arith, h.0, h.1, h.2, h.3)
-shifted_right a b c d (suc zero) zero h hm hr = omega (arith, h.0, h.1, h.2, h.3)
-shifted_right a b c d (suc zero) (suc zero) h hm hr = omega (arith, h.0, h.1, h.2, h.3)
-shifted_right a b c d (suc zero) (suc (suc zero)) h hm hr = omega (arith, h.0, h.1, h.2, h.3)
-shifted_right a b c d (suc zero) (suc (suc (suc zero))) h hm hr = omega (arith, h.0, h.1, h.2, h.3)
-shifted_right a b c d (suc (suc zero)) zero h hm hr = omega (arith, h.0, h.1, h.2, h.3)
-shifted_right a b c d (suc (suc zero)) (suc zero) h hm hr = omega (arith, h.0, h.1, h.2, h.3)
-shifted_right a b c d (suc (suc zero)) (suc (suc zero)) h hm hr = omega (arith, h.0, h.1, h.2, h.3)
-shifted_right a b c d (suc (suc zero)) (suc (suc (suc zero))) h hm hr = omega (arith, h.0, h.1, h.2, h.3)
-shifted_right a b c d (suc (suc (suc zero))) zero h hm hr = omega (arith, h.0, h.1, h.2, h.3)
-shifted_right a b c d (suc (suc (suc zero))) (suc zero) h hm hr = omega (arith, h.0, h.1, h.2, h.3)
-shifted_right a b c d (suc (suc (suc zero))) (suc (suc zero)) h hm hr = omega (arith, h.0, h.1, h.2, h.3)
-shifted_right a b c d (suc (suc (suc zero))) (suc (suc (suc zero))) h hm hr = omega (arith, h.0, h.1, h.2, h.3)
-shifted_right a b c d m (suc (suc (suc (suc r)))) h hm hr = absurd (omega arith)
-shifted_right a b c d (suc (suc (suc (suc m)))) r h hm hr = absurd (omega arith)
+-- byte r of a word that is shifted right by two bytes is byte r + 2, or 0
+shifted_right : (a b c d r : ℕ) → a < 256 × (b < 256) × (c < 256) × (d < 256) → r < 4
+    → word a b c d / 2 ^ 16 / 256 ^ r % 256 ≡ cond (nat_lt (r + 2) 4) (get_or (a ∷ b ∷ c ∷ d ∷ []) (r + 2) 0) 0
+shifted_right a b c d zero h hr = omega (arith, h.0, h.1, h.2, h.3)
+shifted_right a b c d (suc zero) h hr = omega (arith, h.0, h.1, h.2, h.3)
+shifted_right a b c d (suc (suc zero)) h hr = omega (arith, h.0, h.1, h.2, h.3)
+shifted_right a b c d (suc (suc (suc zero))) h hr = omega (arith, h.0, h.1, h.2, h.3)
+shifted_right a b c d (suc (suc (suc (suc r)))) h hr = absurd (omega arith)
 
--- byte r of a word that is shifted left by m bytes is byte r - m, or 0
-shifted_left : (a b c d m r : ℕ) → a < 256 × (b < 256) × (c < 256) × (d < 256) → m < 4 → r < 4
-    → word a b c d * 2 ^ (8 * m) % 2 ^ 32 / 256 ^ r % 256 ≡ cond (nat_le m r) (get_or (a ∷ b ∷ c ∷ d ∷ []) (r - m) 0) 0
-shifted_left a b c d zero zero h hm hr = omega (arith, h.0, h.1, h.2, h.3)
-shifted_left a b c d zero (suc zero) h hm hr = omega (arith, h.0, h.1, h.2, h.3)
-shifted_left a b c d zero (suc (suc zero)) h hm hr = omega (arith, h.0, h.1, h.2, h.3)
-shifted_left a b c d zero (suc (suc (suc zero))) h hm hr = omega (arith, h.0, h.1, h.2, h.3)
-shifted_left a b c d (suc zero) zero h hm hr = omega (arith, h.0, h.1, h.2, h.3)
-shifted_left a b c d (suc zero) (suc zero) h hm hr = omega (arith, h.0, h.1, h.2, h.3)
-shifted_left a b c d (suc zero) (suc (suc zero)) h hm hr = omega (arith, h.0, h.1, h.2, h.3)
-shifted_left a b c d (suc zero) (suc (suc (suc zero))) h hm hr = omega (arith, h.0, h.1, h.2, h.3)
-shifted_left a b c d (suc (suc zero)) zero h hm hr = omega (arith, h.0, h.1, h.2, h.3)
-shifted_left a b c d (suc (suc zero)) (suc zero) h hm hr = omega (arith, h.0, h.1, h.2, h.3)
-shifted_left a b c d (suc (suc zero)) (suc (suc zero)) h hm hr = omega (arith, h.0, h.1, h.2, h.3)
-shifted_left a b c d (suc (suc zero)) (suc (suc (suc zero))) h hm hr = omega (arith, h.0, h.1, h.2, h.3)
-shifted_left a b c d (suc (suc (suc zero))) zero h hm hr = omega (arith, h.0, h.1, h.2, h.3)
-shifted_left a b c d (suc (suc (suc zero))) (suc zero) h hm hr = omega (arith, h.0, h.1, h.2, h.3)
-shifted_left a b c d (suc (suc (suc zero))) (suc (suc zero)) h hm hr = omega (arith, h.0, h.1, h.2, h.3)
-shifted_left a b c d (suc (suc (suc zero))) (suc (suc (suc zero))) h hm hr = omega (arith, h.0, h.1, h.2, h.3)
-shifted_left a b c d m (suc (suc (suc (suc r)))) h hm hr = absurd (omega arith)
-shifted_left a b c d (suc (suc (suc (suc m)))) r h hm hr = absurd (omega arith)
+-- byte r of a word that is shifted left by two bytes is byte r - 2, or 0
+shifted_left : (a b c d r : ℕ) → a < 256 × (b < 256) × (c < 256) × (d < 256) → r < 4
+    → word a b c d * 2 ^ 16 % 2 ^ 32 / 256 ^ r % 256 ≡ cond (nat_le 2 r) (get_or (a ∷ b ∷ c ∷ d ∷ []) (r - 2) 0) 0
+shifted_left a b c d zero h hr = omega (arith, h.0, h.1, h.2, h.3)
+shifted_left a b c d (suc zero) h hr = omega (arith, h.0, h.1, h.2, h.3)
+shifted_left a b c d (suc (suc zero)) h hr = omega (arith, h.0, h.1, h.2, h.3)
+shifted_left a b c d (suc (suc (suc zero))) h hr = omega (arith, h.0, h.1, h.2, h.3)
+shifted_left a b c d (suc (suc (suc (suc r)))) h hr = absurd (omega arith)
 
 -- each lane of a vector of bytes is below 256, as `get_or_wider` asks for
 below_256 : (v : List ℕ) → Each1 (Fits w8) v → Each1 (λ x. x < 256) v
@@ -271,105 +256,105 @@ cond_same : (b : Bool) (p q : ℕ) → (b ≡ true → p ≡ q) → cond b p 0 �
 cond_same true p q h = h refl
 cond_same false p q h = refl
 
--- columns that are shifted right by m bytes give each lane the lane m rows below, or 0
-pub up_sixteen : (x : List ℕ) (m : ℕ) → length x ≡ 16 → Each1 (Fits w8) x → m < 4
+-- the lane two rows below in its column, or 0
+abbrev pub up : List ℕ → ℕ → ℕ
+up x i = cond (nat_lt (i % 4 + 2) 4) (get_or x (i + 2) 0) 0
+
+-- the lane two rows above in its column, or 0
+abbrev pub down : List ℕ → ℕ → ℕ
+down x i = cond (nat_le 2 (i % 4)) (get_or x (i - 2) 0) 0
+
+-- columns that are shifted right by two bytes give each lane the lane two rows below, or 0
+pub up_sixteen : (x : List ℕ) → length x ≡ 16 → Each1 (Fits w8) x
     → HasSixteen
-    (digits_l 256 16 (number_l (2 ^ 32)
-    (zip2 (λ a b. a / 2 ^ b) (digits_l (2 ^ 32) 4 (number_l 256 x)) (replicate 4 (8 * m)))))
-    (λ i. cond (nat_lt (i % 4 + m) 4) (get_or x (i + m) 0) 0)
-up_sixteen x m hx fits hm = record {
+    (digits_l 256 16 (number_l (2 ^ 32) (zip2 (λ a b. a / 2 ^ b) (digits_l (2 ^ 32) 4 (number_l 256 x)) (replicate 4 16))))
+    (up x)
+up_sixteen x hx fits = record {
   long = refl;
   each = λ k l.
-      columns (λ a b. a / 2 ^ b) (8 * m) x hx fits (λ w h. omega (arith, div-le_self w (2 ^ (8 * m)), h)) k l
-      ∙ shifted_right _ _ _ _ m (k % 4) (column_small x (k / 4) fits) hm (omega arith)
-      ∙ cond_same (nat_lt (k % 4 + m) 4) _ _ (λ e.
-      let below : k % 4 + m < 4 = ltb-true (k % 4 + m) 4 e in
-      let place : 4 * (k / 4) + (k % 4 + m) ≡ k + m = omega arith in
-      column_byte x (4 * (k / 4)) (k % 4 + m) below ∙ ap (λ (i : ℕ). get_or x i 0) place);
+      columns (λ a b. a / 2 ^ b) 16 x hx fits (λ w h. omega arith) k l
+      ∙ shifted_right _ _ _ _ (k % 4) (column_small x (k / 4) fits) (omega arith)
+      ∙ cond_same (nat_lt (k % 4 + 2) 4) _ _ (λ e.
+      let below : k % 4 + 2 < 4 = ltb-true (k % 4 + 2) 4 e in
+      let place : 4 * (k / 4) + (k % 4 + 2) ≡ k + 2 = omega arith in
+      column_byte x (4 * (k / 4)) (k % 4 + 2) below ∙ ap (λ (i : ℕ). get_or x i 0) place);
 }
 
--- columns that are shifted left by m bytes give each lane the lane m rows above, or 0
-pub down_sixteen : (x : List ℕ) (m : ℕ) → length x ≡ 16 → Each1 (Fits w8) x → m < 4
+-- columns that are shifted left by two bytes give each lane the lane two rows above, or 0
+pub down_sixteen : (x : List ℕ) → length x ≡ 16 → Each1 (Fits w8) x
     → HasSixteen
     (digits_l 256 16 (number_l (2 ^ 32)
-    (zip2 (λ a b. a * 2 ^ b % 2 ^ 32) (digits_l (2 ^ 32) 4 (number_l 256 x)) (replicate 4 (8 * m)))))
-    (λ i. cond (nat_le m (i % 4)) (get_or x (i - m) 0) 0)
-down_sixteen x m hx fits hm = record {
+    (zip2 (λ a b. a * 2 ^ b % 2 ^ 32) (digits_l (2 ^ 32) 4 (number_l 256 x)) (replicate 4 16))))
+    (down x)
+down_sixteen x hx fits = record {
   long = refl;
   each = λ k l.
-      columns (λ a b. a * 2 ^ b % 2 ^ 32) (8 * m) x hx fits (λ w h. mod-lt (w * 2 ^ (8 * m)) (omega arith)) k l
-      ∙ shifted_left _ _ _ _ m (k % 4) (column_small x (k / 4) fits) hm (omega arith)
-      ∙ cond_same (nat_le m (k % 4)) _ _ (λ e.
-      let above : m ≤ k % 4 = leb-true m (k % 4) e in
-      let place : 4 * (k / 4) + (k % 4 - m) ≡ k - m = omega arith in
-      column_byte x (4 * (k / 4)) (k % 4 - m) (omega arith) ∙ ap (λ (i : ℕ). get_or x i 0) place);
+      columns (λ a b. a * 2 ^ b % 2 ^ 32) 16 x hx fits (λ w h. mod-lt (w * 2 ^ 16) (omega arith)) k l
+      ∙ shifted_left _ _ _ _ (k % 4) (column_small x (k / 4) fits) (omega arith)
+      ∙ cond_same (nat_le 2 (k % 4)) _ _ (λ e.
+      let above : 2 ≤ k % 4 = leb-true 2 (k % 4) e in
+      let place : 4 * (k / 4) + (k % 4 - 2) ≡ k - 2 = omega arith in
+      column_byte x (4 * (k / 4)) (k % 4 - 2) (omega arith) ∙ ap (λ (i : ℕ). get_or x i 0) place);
 }
 
 -- a vector of 16 lanes holds its own lanes
 pub own_lanes : (v : List ℕ) → length v ≡ 16 → HasSixteen v (λ i. get_or v i 0)
 own_lanes v long = record { long = long; each = λ k l. refl }
 
--- ---- rotations of columns, whose two parts are in two sums
--- the lane m rows below in its column, or 0
-abbrev pub up : List ℕ → ℕ → ℕ → ℕ
-up x m i = cond (nat_lt (i % 4 + m) 4) (get_or x (i + m) 0) 0
-
--- the lane m rows above in its column, or 0
-abbrev pub down : List ℕ → ℕ → ℕ → ℕ
-down x m i = cond (nat_le m (i % 4)) (get_or x (i - m) 0) 0
-
--- one of the two parts of a rotation is the lane m rows below, around the end, and the other is 0
-both_parts : (x : List ℕ) (m n i : ℕ) → m + n ≡ 4 → 0 < n → i < 16 → (p q : Bool) → nat_lt (i % 4 + m) 4 ≡ p
-    → nat_le n (i % 4) ≡ q
-    → bit_xor (cond p (get_or x (i + m) 0) 0) (cond q (get_or x (i - n) 0) 0) ≡ get_or x (row_below m i) 0
-both_parts x m n i four some l true true e f =
-    let above : i % 4 + m < 4 = ltb-true (i % 4 + m) 4 e in
-    let below : n ≤ i % 4 = leb-true n (i % 4) f in
+-- ---- rotations of columns by two rows, in two parts
+-- one of the two parts is the lane two rows below, around the end, and the other is 0
+both_parts : (x : List ℕ) (i : ℕ) → i < 16 → (p q : Bool) → nat_lt (i % 4 + 2) 4 ≡ p → nat_le 2 (i % 4) ≡ q
+    → bit_xor (cond p (get_or x (i + 2) 0) 0) (cond q (get_or x (i - 2) 0) 0) ≡ get_or x (row_below 2 i) 0
+both_parts x i l true true e f =
+    let above : i % 4 + 2 < 4 = ltb-true (i % 4 + 2) 4 e in
+    let below : 2 ≤ i % 4 = leb-true 2 (i % 4) f in
     absurd (omega arith)
-both_parts x m n i four some l true false e f =
-    let above : i % 4 + m < 4 = ltb-true (i % 4 + m) 4 e in
-    let place : i + m ≡ row_below m i = omega arith in
-    xor_zero_r (get_or x (i + m) 0) ∙ ap (λ (k : ℕ). get_or x k 0) place
-both_parts x m n i four some l false true e f =
-    let below : n ≤ i % 4 = leb-true n (i % 4) f in
-    let place : i - n ≡ row_below m i = omega arith in
-    xor_zero_l (get_or x (i - n) 0) ∙ ap (λ (k : ℕ). get_or x k 0) place
-both_parts x m n i four some l false false e f =
-    let above : 4 ≤ i % 4 + m = ltb-false (i % 4 + m) 4 e in
-    let below : i % 4 < n = leb-false n (i % 4) f in
+both_parts x i l true false e f =
+    let above : i % 4 + 2 < 4 = ltb-true (i % 4 + 2) 4 e in
+    let place : i + 2 ≡ row_below 2 i = omega arith in
+    xor_zero_r (get_or x (i + 2) 0) ∙ ap (λ (k : ℕ). get_or x k 0) place
+both_parts x i l false true e f =
+    let below : 2 ≤ i % 4 = leb-true 2 (i % 4) f in
+    let place : i - 2 ≡ row_below 2 i = omega arith in
+    xor_zero_l (get_or x (i - 2) 0) ∙ ap (λ (k : ℕ). get_or x k 0) place
+both_parts x i l false false e f =
+    let above : 4 ≤ i % 4 + 2 = ltb-false (i % 4 + 2) 4 e in
+    let below : i % 4 < 2 = leb-false 2 (i % 4) f in
     absurd (omega arith)
 
--- the two parts of a rotation are together the lane m rows below, around the end
-turned_lane : (x : List ℕ) (m n i : ℕ) → m + n ≡ 4 → 0 < n → i < 16
-    → bit_xor (up x m i) (down x n i) ≡ get_or x (row_below m i) 0
-turned_lane x m n i four some l = both_parts x m n i four some l (nat_lt (i % 4 + m) 4) (nat_le n (i % 4)) refl refl
-
--- the sums of three parts that move up and three that move down, regrouped by the vector that moves
-regrouped : (k a p q r s t u : ℕ)
-    → bit_xor (bit_xor a k) (bit_xor (bit_xor (bit_xor p q) r) (bit_xor (bit_xor s t) u))
-    ≡ bit_xor (bit_xor a (bit_xor (bit_xor r u) (bit_xor (bit_xor q t) (bit_xor p s)))) k
-regrouped k a p q r s t u =
-    let three : bit_xor (bit_xor (bit_xor p q) r) (bit_xor (bit_xor s t) u)
-    ≡ bit_xor (bit_xor r u) (bit_xor (bit_xor q t) (bit_xor p s)) =
-    xor_exchange (bit_xor p q) r (bit_xor s t) u
-    ∙ xor_comm (bit_xor (bit_xor p q) (bit_xor s t)) (bit_xor r u)
-    ∙ ap (bit_xor (bit_xor r u)) (xor_exchange p q s t ∙ xor_comm (bit_xor p s) (bit_xor q t)) in
-    ap (bit_xor (bit_xor a k)) three
-    ∙ xor_assoc a k (bit_xor (bit_xor r u) (bit_xor (bit_xor q t) (bit_xor p s)))
-    ∙ ap (bit_xor a) (xor_comm k (bit_xor (bit_xor r u) (bit_xor (bit_xor q t) (bit_xor p s))))
-    ∙ sym (xor_assoc a (bit_xor (bit_xor r u) (bit_xor (bit_xor q t) (bit_xor p s))) k)
-
--- lanes that are those sums are the sums of the rows that InvMixColumns adds
-pub mixed_rows : (v a b c d k : List ℕ)
-    → HasSixteen v (λ i.
-    bit_xor (bit_xor (get_or a i 0) (get_or k i 0))
-    (bit_xor (bit_xor (bit_xor (up d 3 i) (up c 2 i)) (up b 1 i))
-    (bit_xor (bit_xor (down d 1 i) (down c 2 i)) (down b 3 i))))
-    → HasSixteen v (λ i. bit_xor (mix_of (get_or a i 0) (get_or b (row_below 1 i) 0) (get_or c (row_below 2 i) 0)
-    (get_or d (row_below 3 i) 0)) (get_or k i 0))
-mixed_rows v a b c d k made =
+-- lanes to which the two parts are added one after the other have the lane two rows below added to them
+pub turned : (v a y : List ℕ) → HasSixteen v (λ i. bit_xor (bit_xor (get_or a i 0) (up y i)) (down y i))
+    → HasSixteen v (λ i. bit_xor (get_or a i 0) (get_or y (row_below 2 i) 0))
+turned v a y made =
     same_sixteen v made (λ i l.
-    regrouped (get_or k i 0) (get_or a i 0) (up d 3 i) (up c 2 i) (up b 1 i) (down d 1 i) (down c 2 i) (down b 3 i)
-    ∙ ap (λ (z : ℕ). bit_xor (bit_xor (get_or a i 0) z) (get_or k i 0))
-    (ap₂ bit_xor (turned_lane b 1 3 i refl (omega arith) l)
-    (ap₂ bit_xor (turned_lane c 2 2 i refl (omega arith) l) (turned_lane d 3 1 i refl (omega arith) l))))
+    xor_assoc (get_or a i 0) (up y i) (down y i)
+    ∙ ap (bit_xor (get_or a i 0)) (both_parts y i l (nat_lt (i % 4 + 2) 4) (nat_le 2 (i % 4)) refl refl))
+
+-- the sum of four terms, from the sums of two pairs of them, one with a key
+paired : (a b c d k : ℕ) → bit_xor (bit_xor b d) (bit_xor (bit_xor a c) k) ≡ bit_xor (mix_of a b c d) k
+paired a b c d k =
+    sym (xor_assoc (bit_xor b d) (bit_xor a c) k)
+    ∙ ap (λ (z : ℕ). bit_xor z k)
+    (xor_comm (bit_xor b d) (bit_xor a c) ∙ xor_exchange a c b d ∙ xor_assoc a b (bit_xor c d))
+
+-- lanes that are the sums of two pairs, picked after they were made, and of a key are the sums of the rows that InvMixColumns
+-- adds, and of the key
+pub mixed_rows : (v next own y z a b c d k : List ℕ)
+    → HasSixteen v (λ i. bit_xor (get_or next i 0) (bit_xor (get_or own i 0) (get_or k i 0)))
+    → HasSixteen next (λ i. get_or y (row_below 1 (unshifted_from i)) 0)
+    → HasSixteen own (λ i. get_or z (unshifted_from i) 0)
+    → HasSixteen y (λ i. bit_xor (get_or b i 0) (get_or d (row_below 2 i) 0))
+    → HasSixteen z (λ i. bit_xor (get_or a i 0) (get_or c (row_below 2 i) 0))
+    → HasSixteen v (λ i. bit_xor (mix_of (get_or a (unshifted_from i) 0) (get_or b (row_below 1 (unshifted_from i)) 0)
+    (get_or c (row_below 2 (unshifted_from i)) 0) (get_or d (row_below 3 (unshifted_from i)) 0)) (get_or k i 0))
+mixed_rows v next own y z a b c d k made hn ho hy hz =
+    same_sixteen v made (λ i l.
+    let small : unshifted_from i < 16 = omega arith in
+    let one : row_below 1 (unshifted_from i) < 16 = omega arith in
+    let three : row_below 2 (row_below 1 (unshifted_from i)) ≡ row_below 3 (unshifted_from i) = omega arith in
+    ap₂ bit_xor
+    (hn.each i l ∙ hy.each (row_below 1 (unshifted_from i)) one
+    ∙ ap (λ (p : ℕ). bit_xor (get_or b (row_below 1 (unshifted_from i)) 0) (get_or d p 0)) three)
+    (ap (λ (z : ℕ). bit_xor z (get_or k i 0)) (ho.each i l ∙ hz.each (unshifted_from i) small))
+    ∙ paired (get_or a (unshifted_from i) 0) (get_or b (row_below 1 (unshifted_from i)) 0)
+    (get_or c (row_below 2 (unshifted_from i)) 0) (get_or d (row_below 3 (unshifted_from i)) 0) (get_or k i 0))

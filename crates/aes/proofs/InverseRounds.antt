@@ -1,17 +1,14 @@
 -- The rounds of the equivalent inverse cipher.
-use Rattle.std.proofs.Common.{◌≡◌, ℕ, suc, ◌+◌, ◌-◌, ◌*◌, ◌/◌, ◌%◌, ◌<◌, ◌≤◌, List, [], ◌∷◌, get_or, length, sym}
+use Rattle.std.proofs.Common.{◌≡◌, ℕ, suc, ◌+◌, ◌-◌, ◌*◌, ◌/◌, ◌%◌, ◌<◌, List, [], get_or, length, sym}
 use Rattle.std.proofs.Common.{ap, ◌∙◌, arith}
 use Rattle.octets.specs.Bytes.{IsBlock}
 use Rattle.aes.specs.Schedule.{round_count, schedule}
 use Rattle.aes.specs.Cipher.{shift_rows, sub_bytes, mix_columns, add_round_key, rounds, cipher, IsKey}
 use Rattle.aes.specs.Code.InverseSteps.{inverse_mix_columns, round_key}
-use Rattle.aes.specs.Code.Columns.{column_of, columns_of, state_of}
-use Rattle.aes.proofs.Expanded.{HasSchedule, rounds_start, rounds_suc, cipher_is}
+use Rattle.aes.proofs.Expanded.{rounds_start, rounds_suc, cipher_is}
 use Rattle.aes.proofs.Permutation.{words_are}
 use Rattle.aes.proofs.Grids.{grid_is}
-use Rattle.aes.proofs.Steps.{add_twice, add_block, mix_unmix_block, quad}
-use Rattle.aes.proofs.ColumnWords.{state_long}
-use Rattle.aes.proofs.InverseBytes.{byte_grid}
+use Rattle.aes.proofs.Steps.{add_twice, add_block, mix_unmix_block}
 
 -- AddRoundKey gives a block
 pub added_block : (key : List ℕ) (n : ℕ) (s : List ℕ) → IsKey key → IsBlock s → IsBlock (add_round_key (schedule key) n s)

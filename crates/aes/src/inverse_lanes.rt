@@ -1,9 +1,9 @@
 //! One block in a vector of 16 bytes, for the inverse cipher (FIPS 197, 5.3.5), with look-ups in tables of sixteen bytes. The
 //! tables are vectors: none is read from memory by a byte of the state or of a key.
 //!
-//! A state is kept as the inverse S-box takes it: each byte with the affine map of the S-box undone, and in a basis in which the
-//! field of 256 elements is an extension of its subfield of 16. There an inverse takes five look-ups, in which 0x80 stands for
-//! the inverse of 0.
+//! A state is kept as the inverse S-box takes it: after InvShiftRows, each byte with the affine map of the S-box undone, and in a
+//! basis in which the field of 256 elements is an extension of its subfield of 16. There an inverse takes five look-ups, in which
+//! 0x80 stands for the inverse of 0. The round keys that are added to it have the same form.
 
 ghost use Rattle.std.specs.Prelude.{◌≡◌, ℕ, ◌+◌, ◌-◌, ◌/◌, ◌%◌, ◌<◌, ◌≤◌, List, length, slice_index, bit_xor};
 ghost use Rattle.std.specs.Prelude.{nat_lt, nat_le, if◌then◌else◌};
@@ -11,7 +11,7 @@ ghost use Rattle.octets.specs.Bytes.{IsBlock};
 ghost use Rattle.aes.specs.Cipher.{sub_bytes, shift_rows, add_round_key};
 ghost use Rattle.aes.specs.Code.InverseSteps.{round_key, inverse_mix_columns};
 ghost use Rattle.aes.specs.Code.InverseLanes.{HasSixteen, IsShortPlace, find, row_below, unshifted_from, mix_of};
-ghost use Rattle.aes.specs.Code.InverseLanes.{u_at, t_at, affine_undone, undone};
+ghost use Rattle.aes.specs.Code.InverseLanes.{u_at, t_at, affine_undone, HoldsUndone};
 
 use std::simd::prelude::*;
 use std::simd::{u8x16, u32x4};
@@ -226,51 +226,64 @@ fn unshift_rows(x: u8x16) -> u8x16
     x.swizzle([0, 13, 10, 7, 4, 1, 14, 11, 8, 5, 2, 15, 12, 9, 6, 3])
 }
 
-// Moves each column up by some rows, and fills the last ones with zeros.
+// Undoes ShiftRows in columns that are moved up by one row; row 0 becomes row 3.
 #[inline(always)]
-fn rows_up(x: u8x16, rows: u32) -> u8x16
-    requires { rows < 4 }
-    ensures { HasSixteen result (λ i. if nat_lt (i % 4 + rows) 4 then slice_index x (i + rows) else 0) }
+fn unshift_next_rows(x: u8x16) -> u8x16
+    ensures { HasSixteen result (λ i. slice_index x (row_below 1 (unshifted_from i))) }
 {
-    (u32x4::from_le_bytes(x) >> u32x4::splat(8 * rows)).to_le_bytes()
+    x.swizzle([1, 14, 11, 4, 5, 2, 15, 8, 9, 6, 3, 12, 13, 10, 7, 0])
 }
 
-// Moves each column down by some rows, and fills the first ones with zeros.
+// Moves each column up by two rows, and fills the last two with zeros.
 #[inline(always)]
-fn rows_down(x: u8x16, rows: u32) -> u8x16
-    requires { rows < 4 }
-    ensures { HasSixteen result (λ i. if nat_le rows (i % 4) then slice_index x (i - rows) else 0) }
+fn two_rows_up(x: u8x16) -> u8x16
+    ensures { HasSixteen result (λ i. if nat_lt (i % 4 + 2) 4 then slice_index x (i + 2) else 0) }
 {
-    (u32x4::from_le_bytes(x) << u32x4::splat(8 * rows)).to_le_bytes()
+    (u32x4::from_le_bytes(x) >> u32x4::splat(16)).to_le_bytes()
 }
 
-// The sum of the multiples of the rows that InvMixColumns adds (FIPS 197, 5.3.3), and of a round key. The two halves of a
-// rotation stand in different sums: side by side they become a shuffle, and only one port of the processor has those.
+// Moves each column down by two rows, and fills the first two with zeros.
 #[inline(always)]
-fn mix(by14: u8x16, by11: u8x16, by13: u8x16, by9: u8x16, key: u8x16) -> u8x16
-    ensures { HasSixteen result (λ i. bit_xor (mix_of (slice_index by14 i) (slice_index by11 (row_below 1 i))
-        (slice_index by13 (row_below 2 i)) (slice_index by9 (row_below 3 i))) (slice_index key i)) }
+fn two_rows_down(x: u8x16) -> u8x16
+    ensures { HasSixteen result (λ i. if nat_le 2 (i % 4) then slice_index x (i - 2) else 0) }
 {
-    let up = sum(sum(rows_up(by9, 3), rows_up(by13, 2)), rows_up(by11, 1));
-    let down = sum(
-        sum(rows_down(by9, 1), rows_down(by13, 2)),
-        rows_down(by11, 3),
-    );
-    sum(sum(by14, key), sum(up, down))
+    (u32x4::from_le_bytes(x) << u32x4::splat(16)).to_le_bytes()
 }
 
-// InvMixColumns of a round key, with the affine map undone at each byte, in the basis.
+// Adds the row two below. The halves of this rotation are added one after the other: side by side they become a shuffle of each
+// of the two look-ups that `far` is the sum of, and some processors have only one port for shuffles.
+#[inline(always)]
+fn add_two_below(near: u8x16, far: u8x16) -> u8x16
+    ensures { HasSixteen result (λ i. bit_xor (slice_index near i) (slice_index far (row_below 2 i))) }
+{
+    sum(sum(near, two_rows_up(far)), two_rows_down(far))
+}
+
+// The sum of the multiples of the rows that InvMixColumns adds (FIPS 197, 5.3.3), after InvShiftRows of the next round, and of a
+// round key. The multiples come in the order in which they are wanted: those that are moved first.
+#[inline(always)]
+fn mix(by9: u8x16, by13: u8x16, by11: u8x16, by14: u8x16, key: u8x16) -> u8x16
+    ensures { HasSixteen result (λ i. bit_xor (mix_of (slice_index by14 (unshifted_from i))
+        (slice_index by11 (row_below 1 (unshifted_from i))) (slice_index by13 (row_below 2 (unshifted_from i)))
+        (slice_index by9 (row_below 3 (unshifted_from i)))) (slice_index key i)) }
+{
+    let next = unshift_next_rows(add_two_below(by11, by9));
+    let own = unshift_rows(add_two_below(by14, by13));
+    sum(next, sum(own, key))
+}
+
+// InvMixColumns of a round key, in the form in which the state is kept.
 #[inline(always)]
 pub(crate) fn middle_key(x: u8x16) -> [u8; 16]
-    ensures { result ≡ undone (inverse_mix_columns x) }
+    ensures { HoldsUndone result (inverse_mix_columns x) }
 {
     let low = low_nibbles(x);
     let high = high_nibbles(x);
     mix(
-        look_up_both(FOURTEEN_LOW, FOURTEEN_HIGH, low, high),
-        look_up_both(ELEVEN_LOW, ELEVEN_HIGH, low, high),
-        look_up_both(THIRTEEN_LOW, THIRTEEN_HIGH, low, high),
         look_up_both(NINE_LOW, NINE_HIGH, low, high),
+        look_up_both(THIRTEEN_LOW, THIRTEEN_HIGH, low, high),
+        look_up_both(ELEVEN_LOW, ELEVEN_HIGH, low, high),
+        look_up_both(FOURTEEN_LOW, FOURTEEN_HIGH, low, high),
         u8x16::splat(0x12),
     )
     .to_array()
@@ -287,39 +300,39 @@ fn undo_affine(x: u8x16) -> u8x16
     )
 }
 
-// AddRoundKey with the last round key, and then the affine map undone at each byte, in the basis.
+// AddRoundKey with the last round key, in the form in which the state is kept.
 #[inline(always)]
 pub(crate) fn begin(block: &[u8; 16], key: [u8; 16]) -> u8x16
     ensures { (ws : List (List ℕ)) (n : ℕ) → key ≡ round_key ws n
-        → result ≡ undone (add_round_key ws n block.now) }
+        → HoldsUndone result (add_round_key ws n block.now) }
 {
-    undo_affine(sum(u8x16::from_array(*block), u8x16::from_array(key)))
+    undo_affine(unshift_rows(sum(u8x16::from_array(*block), u8x16::from_array(key))))
 }
 
 // A round of the equivalent inverse cipher, with a round key of `middle_key`.
 #[inline(always)]
 pub(crate) fn inverse_round(x: u8x16, key: [u8; 16]) -> u8x16
-    ensures { (s : List ℕ) (ws : List (List ℕ)) (n : ℕ) → IsBlock s → x ≡ undone (shift_rows (sub_bytes s))
-        → key ≡ undone (inverse_mix_columns (round_key ws n))
-        → result ≡ undone (inverse_mix_columns (add_round_key ws n s)) }
+    ensures { (s : List ℕ) (ws : List (List ℕ)) (n : ℕ) → IsBlock s → HoldsUndone x (shift_rows (sub_bytes s))
+        → HoldsUndone key (inverse_mix_columns (round_key ws n))
+        → HoldsUndone result (inverse_mix_columns (add_round_key ws n s)) }
 {
-    let (u, t) = inverse(unshift_rows(x));
+    let (u, t) = inverse(x);
     mix(
-        look_up_both(FOURTEEN_BY_FIRST, FOURTEEN_BY_SECOND, u, t),
-        look_up_both(ELEVEN_BY_FIRST, ELEVEN_BY_SECOND, u, t),
-        look_up_both(THIRTEEN_BY_FIRST, THIRTEEN_BY_SECOND, u, t),
         look_up_both(NINE_BY_FIRST, NINE_BY_SECOND, u, t),
+        look_up_both(THIRTEEN_BY_FIRST, THIRTEEN_BY_SECOND, u, t),
+        look_up_both(ELEVEN_BY_FIRST, ELEVEN_BY_SECOND, u, t),
+        look_up_both(FOURTEEN_BY_FIRST, FOURTEEN_BY_SECOND, u, t),
         u8x16::from_array(key),
     )
 }
 
-// The last round, which has no InvMixColumns. Its result is not in the basis any more.
+// The last round, which has no InvMixColumns. Its result is a block as it is.
 #[inline(always)]
 pub(crate) fn end(x: u8x16, key: [u8; 16]) -> [u8; 16]
-    ensures { (s : List ℕ) (ws : List (List ℕ)) (n : ℕ) → IsBlock s → x ≡ undone (shift_rows (sub_bytes s))
+    ensures { (s : List ℕ) (ws : List (List ℕ)) (n : ℕ) → IsBlock s → HoldsUndone x (shift_rows (sub_bytes s))
         → key ≡ round_key ws n → result ≡ add_round_key ws n s }
 {
-    let (u, t) = inverse(unshift_rows(x));
+    let (u, t) = inverse(x);
     sum(
         look_up_both(PLAIN_BY_FIRST, PLAIN_BY_SECOND, u, t),
         u8x16::from_array(key),

@@ -3,7 +3,7 @@ use Rattle.std.specs.Prelude.{◌≡◌, ℕ, ◌<◌, ◌≤◌, List, [], slic
 use Rattle.aes.specs.Schedule.{schedule, round_count}
 use Rattle.aes.specs.Cipher.{IsKey}
 use Rattle.aes.specs.Code.InverseSteps.{round_key, inverse_mix_columns}
-use Rattle.aes.specs.Code.InverseLanes.{undone}
+use Rattle.aes.specs.Code.InverseLanes.{HoldsUndone}
 use Rattle.aes.specs.declared.inverse_key.InverseKey.{InverseKey}
 
 -- the arrays are the round keys of the key's schedule, in order
@@ -17,5 +17,5 @@ pub record IsInverse (s : InverseKey) (key : List ℕ) : Type 0 where
   pub rounds_are : s.rounds ≡ round_count key
   pub first : slice_index_or s.keys 0 [] ≡ round_key (schedule key) 0
   pub middle : (n : ℕ) → 0 < n → n < s.rounds
-      → slice_index_or s.keys n [] ≡ undone (inverse_mix_columns (round_key (schedule key) n))
+      → HoldsUndone (slice_index_or s.keys n []) (inverse_mix_columns (round_key (schedule key) n))
   pub last : slice_index_or s.keys s.rounds [] ≡ round_key (schedule key) s.rounds

@@ -1,5 +1,5 @@
 -- One block in a vector of 16 bytes, as the inverse S-box takes it.
-use Rattle.std.specs.Prelude.{◌≡◌, ℕ, ◌+◌, ◌-◌, ◌*◌, ◌/◌, ◌%◌, ◌<◌, nat_le, List, map, length, slice_index}
+use Rattle.std.specs.Prelude.{◌≡◌, ℕ, ◌+◌, ◌-◌, ◌*◌, ◌/◌, ◌%◌, ◌<◌, nat_le, List, length, slice_index}
 use Rattle.std.specs.Prelude.{if◌then◌else◌, bit_xor}
 use Rattle.aes.specs.declared.inverse_lanes.TheConstants.{INVERSE, SCALED, UNDONE_LOW, UNDONE_HIGH}
 
@@ -58,6 +58,6 @@ matrix_undone x = bit_xor (slice_index UNDONE_LOW (x % 16)) (slice_index UNDONE_
 abbrev pub affine_undone : ℕ → ℕ
 affine_undone x = bit_xor (matrix_undone x) 0x12
 
--- a block with the affine map undone at each byte, in the basis
-abbrev pub undone : List ℕ → List ℕ
-undone b = map affine_undone b
+-- v holds the block b after InvShiftRows, with the affine map undone at each byte, in the basis
+abbrev pub HoldsUndone : List ℕ → List ℕ → Type 0
+HoldsUndone v b = HasSixteen v (λ i. affine_undone (slice_index b (unshifted_from i)))

@@ -7,12 +7,11 @@ use Rattle.aes.proofs.inverse_lanes.end.Goals as goal
 pub returns : goal.returns
 unfolding add_round_key
 returns c = λ s ws n block e key.
-    let y = c.unshift_rows.result in
     let b : ℕ → ℕ = λ k. get_or s k 0 in
     is_block c.sum.result (add_round_key ws n s) refl
     (same_sixteen c.sum.result
     (via_sum b (λ k. get_or c.args.key k 0) c.sum.result c.look_up_both.result c.args.key c.sum.ensures
-    (plain_state_lanes c.look_up_both.result c.inverse.result.0.lanes c.inverse.result.1.lanes y b c.look_up_both.ensures
-    c.inverse.ensures.0 c.inverse.ensures.1 (back_lanes y c.args.x s c.unshift_rows.ensures e) block.bytes)
+    (plain_state_lanes c.look_up_both.result c.inverse.result.0.lanes c.inverse.result.1.lanes c.args.x b
+    c.look_up_both.ensures c.inverse.ensures.0 c.inverse.ensures.1 (back_lanes c.args.x s e) block.bytes)
     (own_lanes c.args.key (search rules)))
     (λ k l. ap (λ v. bit_xor (b k) (get_or v k 0)) key ∙ sym (added_byte ws n s k l)))

@@ -12,14 +12,14 @@ returns c =
     let high = c.high_nibbles-high in
     let small : (k : ℕ) → get_or x k 0 < 256 = λ k. lane_small x k c.fits-x.1 in
     middle_is c.mix.result x
-    (mixed_lanes c.mix.result c.look_up_both.result c.look_up_both-2.result c.look_up_both-3.result c.look_up_both-4.result
+    (mixed_lanes c.mix.result c.look_up_both-4.result c.look_up_both-3.result c.look_up_both-2.result c.look_up_both.result
     _ (λ k. get_or x k 0) (λ k. 0x12) c.mix.ensures
-    (key_lanes 14 FOURTEEN_LOW FOURTEEN_HIGH c.look_up_both.result low.result.lanes high.result.lanes x (omega arith)
-    c.look_up_both.ensures low.ensures high.ensures small fourteen_key)
-    (key_lanes 11 ELEVEN_LOW ELEVEN_HIGH c.look_up_both-2.result low.result.lanes high.result.lanes x (omega arith)
-    c.look_up_both-2.ensures low.ensures high.ensures small eleven_key)
-    (key_lanes 13 THIRTEEN_LOW THIRTEEN_HIGH c.look_up_both-3.result low.result.lanes high.result.lanes x (omega arith)
-    c.look_up_both-3.ensures low.ensures high.ensures small thirteen_key)
-    (key_lanes 9 NINE_LOW NINE_HIGH c.look_up_both-4.result low.result.lanes high.result.lanes x (omega arith)
-    c.look_up_both-4.ensures low.ensures high.ensures small nine_key)
+    (key_lanes 14 FOURTEEN_LOW FOURTEEN_HIGH c.look_up_both-4.result low.result.lanes high.result.lanes x (omega arith)
+    c.look_up_both-4.ensures low.ensures high.ensures small fourteen_key)
+    (key_lanes 11 ELEVEN_LOW ELEVEN_HIGH c.look_up_both-3.result low.result.lanes high.result.lanes x (omega arith)
+    c.look_up_both-3.ensures low.ensures high.ensures small eleven_key)
+    (key_lanes 13 THIRTEEN_LOW THIRTEEN_HIGH c.look_up_both-2.result low.result.lanes high.result.lanes x (omega arith)
+    c.look_up_both-2.ensures low.ensures high.ensures small thirteen_key)
+    (key_lanes 9 NINE_LOW NINE_HIGH c.look_up_both.result low.result.lanes high.result.lanes x (omega arith)
+    c.look_up_both.ensures low.ensures high.ensures small nine_key)
     (splat_sixteen 0x12))

@@ -1,15 +1,11 @@
-use Rattle.aes.proofs.InverseLanes.{via_sum, mixed_rows}
+use Rattle.std.proofs.Common.{get_or, ap, bit_xor}
+use Rattle.aes.proofs.InverseLanes.{mixed_rows, same_sixteen}
 use Rattle.aes.proofs.inverse_lanes.mix.Goals as goal
 
 pub returns : goal.returns
 returns c =
-    mixed_rows c.sum-5.result c.args.by14 c.args.by11 c.args.by13 c.args.by9 c.args.key
-    (via_sum _ _ c.sum-5.result c.sum-3.result c.sum-4.result c.sum-5.ensures c.sum-3.ensures
-    (via_sum _ _ c.sum-4.result c.sum-up.result c.sum-down.result c.sum-4.ensures
-    (via_sum _ _ c.sum-up.result c.sum.result c.rows_up-3.result c.sum-up.ensures
-    (via_sum _ _ c.sum.result c.rows_up.result c.rows_up-2.result c.sum.ensures c.rows_up.ensures c.rows_up-2.ensures)
-    c.rows_up-3.ensures)
-    (via_sum _ _ c.sum-down.result c.sum-2.result c.rows_down-3.result c.sum-down.ensures
-    (via_sum _ _ c.sum-2.result c.rows_down.result c.rows_down-2.result c.sum-2.ensures c.rows_down.ensures
-    c.rows_down-2.ensures)
-    c.rows_down-3.ensures)))
+    let next = c.unshift_next_rows-next in
+    let own = c.unshift_rows-own in
+    let made = same_sixteen c.sum-2.result c.sum-2.ensures (λ i l. ap (bit_xor (get_or next.result i 0)) (c.sum.ensures.each i l)) in
+    mixed_rows c.sum-2.result next.result own.result c.add_two_below.result c.add_two_below-2.result c.args.by14 c.args.by11
+    c.args.by13 c.args.by9 c.args.key made next.ensures own.ensures c.add_two_below.ensures c.add_two_below-2.ensures

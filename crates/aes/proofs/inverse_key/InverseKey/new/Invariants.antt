@@ -1,12 +1,12 @@
 use Rattle.std.proofs.Common.{◌≡◌, ℕ, ◌<◌, ◌≤◌, [], get_or, length}
 use Rattle.aes.specs.Code.InverseSteps.{inverse_mix_columns}
-use Rattle.aes.specs.Code.InverseLanes.{undone}
+use Rattle.aes.specs.Code.InverseLanes.{HoldsUndone}
 use Rattle.aes.proofs.inverse_key.InverseKey.new.Given as goal
 
 abbrev pub invariant-middle : goal.invariant-middle
 invariant-middle l = record {
   size : length l.keys ≡ 15;
   first : get_or l.keys 0 [] ≡ get_or l.round_keys 0 [];
-  middle : (k : ℕ) → 0 < k → k < l.n → get_or l.keys k [] ≡ undone (inverse_mix_columns (get_or l.round_keys k []));
+  middle : (k : ℕ) → 0 < k → k < l.n → HoldsUndone (get_or l.keys k []) (inverse_mix_columns (get_or l.round_keys k []));
   rest : (k : ℕ) → l.n ≤ k → get_or l.keys k [] ≡ get_or l.round_keys k [];
 }

@@ -1,5 +1,0 @@
-use Rattle.aes.proofs.InverseLanes.{down_sixteen}
-use Rattle.aes.proofs.inverse_lanes.rows_down.Goals as goal
-
-pub returns : goal.returns
-returns c = down_sixteen c.args.x c.args.rows c.fits-x.0 c.fits-x.1 c.requires
