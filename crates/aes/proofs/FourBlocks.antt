@@ -10,8 +10,9 @@ use Rattle.std.proofs.lemmas.Simd.{SwzOk-from_Each1, length-swz_l, get_or-swz_l}
 use lib.Lanes.{zip2, Each1}
 use Rattle.aes.specs.Field.{times, sbox}
 use Rattle.aes.specs.Code.Lanes.{HasLanes, IsPlace, entry, in_basis, from_basis, linear_sbox}
+use Rattle.aes.specs.Code.Lanes.{both_at, first_at, second_at, u_at, t_at, by_inverse}
 use Rattle.aes.specs.declared.sbox.TheConstants.{SBOX}
-use Rattle.aes.specs.declared.lanes.TheConstants.{TO_LOW, TO_HIGH, FROM_LOW, FROM_HIGH, INVERSE, SCALED, PLAIN_BY_FIRST}
+use Rattle.aes.specs.declared.lanes.TheConstants.{TO_LOW, TO_HIGH, FROM_LOW, FROM_HIGH, PLAIN_BY_FIRST}
 use Rattle.aes.specs.declared.lanes.TheConstants.{PLAIN_BY_SECOND, ONCE_BY_FIRST, ONCE_BY_SECOND}
 use Rattle.aes.specs.declared.lanes.TheConstants.{TWICE_BY_FIRST, TWICE_BY_SECOND}
 use Rattle.aes.proofs.Tested.{all_below, all_below_at}
@@ -130,7 +131,7 @@ high_linear : all_below (λ k.
 high_linear = refl
 
 -- a table of nibbles that passes that test takes sums to sums
-linear_at : (t : List ℕ) (a b : ℕ) → a < 16 → b < 16
+pub linear_at : (t : List ℕ) (a b : ℕ) → a < 16 → b < 16
     → all_below (λ k. get_or t (bit_xor (k / 16) (k % 16)) 0 == bit_xor (get_or t (k / 16) 0)
     (get_or t (k % 16) 0)) 256 ≡ true
     → get_or t (bit_xor a b) 0 ≡ bit_xor (get_or t a 0) (get_or t b 0)
@@ -190,36 +191,13 @@ pub from_in_basis : (x : ℕ) → x < 256 → from_basis (in_basis x) ≡ x
 from_in_basis x h =
     eqb-true (from_basis (in_basis x)) x (all_below_at (λ x. from_basis (in_basis x) == x) 256 x from_computed h)
 
--- ---- the S-box in terms of the nibbles of a byte in the basis
--- the scaled inverse of the low nibble
-abbrev pub scaled_at : ℕ → ℕ
-scaled_at y = entry SCALED (y % 16)
-
--- the sum of the nibbles
-abbrev pub both_at : ℕ → ℕ
-both_at y = bit_xor (y % 16) (y / 16)
-
--- the inverse of the high nibble plus the scaled inverse of the low one, which the first part inverts
-abbrev pub first_at : ℕ → ℕ
-first_at y = bit_xor (entry INVERSE (y / 16)) (scaled_at y)
-
--- the inverse of the sum of the nibbles plus the scaled inverse of the low one, which the second part inverts
-abbrev pub second_at : ℕ → ℕ
-second_at y = bit_xor (entry INVERSE (both_at y)) (scaled_at y)
-
--- the first part of an inverse
-abbrev pub u_at : ℕ → ℕ
-u_at y = bit_xor (entry INVERSE (first_at y)) (both_at y)
-
--- the second part of an inverse
-abbrev pub t_at : ℕ → ℕ
-t_at y = bit_xor (entry INVERSE (second_at y)) (y / 16)
-
+-- ---- the S-box, from the nibbles of a byte in the basis
 -- all five are places of a look-up, tested at each byte
 places_computed : all_below
     (λ y. is_place (both_at y) &&
     (is_place (first_at y) && (is_place (second_at y) && (is_place (u_at y) && is_place (t_at y))))) 256
     ≡ true
+unfolding u_at t_at
 places_computed = refl
 
 -- all five are places of a look-up, at any byte
@@ -272,28 +250,24 @@ u_place y h = (places_at y h).3
 pub t_place : (y : ℕ) → y < 256 → IsPlace (t_at y)
 t_place y h = (places_at y h).4
 
--- the XOR of two tables' entries at the two parts of an inverse
-abbrev pub by_parts : List ℕ → List ℕ → ℕ → ℕ
-by_parts p q y = bit_xor (entry p (u_at y)) (entry q (t_at y))
-
 -- the PLAIN tables give the S-box without its constant, tested at each byte
 plain_computed : all_below
-    (λ b. by_parts PLAIN_BY_FIRST PLAIN_BY_SECOND (in_basis b) == bit_xor (get_or SBOX b 0) 0x63) 256 ≡ true
-unfolding in_basis
+    (λ b. by_inverse PLAIN_BY_FIRST PLAIN_BY_SECOND (in_basis b) == bit_xor (get_or SBOX b 0) 0x63) 256 ≡ true
+unfolding in_basis u_at t_at
 plain_computed = refl
 
 -- the ONCE tables give the S-box without its constant, in the basis, tested at each byte
 once_computed : all_below
-    (λ b. by_parts ONCE_BY_FIRST ONCE_BY_SECOND (in_basis b) == in_basis (bit_xor (get_or SBOX b 0) 0x63))
+    (λ b. by_inverse ONCE_BY_FIRST ONCE_BY_SECOND (in_basis b) == in_basis (bit_xor (get_or SBOX b 0) 0x63))
     256 ≡ true
-unfolding in_basis
+unfolding in_basis u_at t_at
 once_computed = refl
 
 -- the TWICE tables give twice the S-box without its constant, in the basis, tested at each byte
 twice_computed : all_below
-    (λ b. by_parts TWICE_BY_FIRST TWICE_BY_SECOND (in_basis b) == in_basis
+    (λ b. by_inverse TWICE_BY_FIRST TWICE_BY_SECOND (in_basis b) == in_basis
     (double (bit_xor (get_or SBOX b 0) 0x63))) 256 ≡ true
-unfolding in_basis
+unfolding in_basis u_at t_at
 twice_computed = refl
 
 -- the S-box without its constant is a byte
@@ -311,31 +285,31 @@ by_sbox g h b l test =
     ∙ ap (λ (s : ℕ). h (bit_xor s 0x63)) (sbox_at b l)
 
 -- if the lanes are two tables' entries at bytes in the basis, which were tested against h, they are h of `linear_sbox`
-substituted : {n : ℕ} (p q v x : List ℕ) (s h : ℕ → ℕ) → HasLanes n v (λ k. by_parts p q (get_or x k 0))
+substituted : {n : ℕ} (p q v x : List ℕ) (s h : ℕ → ℕ) → HasLanes n v (λ k. by_inverse p q (get_or x k 0))
     → ((k : ℕ) → k < n → s k < 256) → HasLanes n x (λ k. in_basis (s k))
-    → all_below (λ b. by_parts p q (in_basis b) == h (bit_xor (get_or SBOX b 0) 0x63)) 256 ≡ true
+    → all_below (λ b. by_inverse p q (in_basis b) == h (bit_xor (get_or SBOX b 0) 0x63)) 256 ≡ true
     → HasLanes n v (λ k. h (linear_sbox (s k)))
 substituted p q v x s h made small held test =
-    same_lanes v made (λ k l. ap (by_parts p q) (held.each k l)
-    ∙ by_sbox (λ b. by_parts p q (in_basis b)) h (s k) (small k l) test)
+    same_lanes v made (λ k l. ap (by_inverse p q) (held.each k l)
+    ∙ by_sbox (λ b. by_inverse p q (in_basis b)) h (s k) (small k l) test)
 
 -- the lanes of the PLAIN tables' entries are the S-box without its constant
 pub plain_lanes : {n : ℕ} (v x : List ℕ) (s : ℕ → ℕ)
-    → HasLanes n v (λ k. by_parts PLAIN_BY_FIRST PLAIN_BY_SECOND (get_or x k 0))
+    → HasLanes n v (λ k. by_inverse PLAIN_BY_FIRST PLAIN_BY_SECOND (get_or x k 0))
     → ((k : ℕ) → k < n → s k < 256) → HasLanes n x (λ k. in_basis (s k)) → HasLanes n v (λ k. linear_sbox (s k))
 plain_lanes v x s made small held =
     substituted PLAIN_BY_FIRST PLAIN_BY_SECOND v x s (λ y. y) made small held plain_computed
 
 -- the lanes of the ONCE tables' entries are the S-box without its constant, in the basis
 pub once_lanes : {n : ℕ} (v x : List ℕ) (s : ℕ → ℕ)
-    → HasLanes n v (λ k. by_parts ONCE_BY_FIRST ONCE_BY_SECOND (get_or x k 0)) → ((k : ℕ) → k < n → s k < 256)
+    → HasLanes n v (λ k. by_inverse ONCE_BY_FIRST ONCE_BY_SECOND (get_or x k 0)) → ((k : ℕ) → k < n → s k < 256)
     → HasLanes n x (λ k. in_basis (s k)) → HasLanes n v (λ k. in_basis (linear_sbox (s k)))
 once_lanes v x s made small held =
     substituted ONCE_BY_FIRST ONCE_BY_SECOND v x s in_basis made small held once_computed
 
 -- the lanes of the TWICE tables' entries are twice the S-box without its constant, in the basis
 pub twice_lanes : {n : ℕ} (v x : List ℕ) (s : ℕ → ℕ)
-    → HasLanes n v (λ k. by_parts TWICE_BY_FIRST TWICE_BY_SECOND (get_or x k 0))
+    → HasLanes n v (λ k. by_inverse TWICE_BY_FIRST TWICE_BY_SECOND (get_or x k 0))
     → ((k : ℕ) → k < n → s k < 256) → HasLanes n x (λ k. in_basis (s k))
     → HasLanes n v (λ k. in_basis (times 2 (linear_sbox (s k))))
 twice_lanes v x s made small held =

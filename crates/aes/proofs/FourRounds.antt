@@ -1,13 +1,12 @@
 -- Rounds of one, two or four blocks, byte by byte.
 use Rattle.std.proofs.Common.{◌≡◌, ℕ, zero, suc, ◌+◌, ◌*◌, ◌/◌, ◌%◌, ◌^◌, ◌<◌, true, ◌&&◌, ◌==◌, List}
 use Rattle.std.proofs.Common.{[], ◌∷◌, get_or, length, refl, sym, ap, ap₂, ◌∙◌, arith, bit_xor}
-use Rattle.std.proofs.Common.{zero-add, take, drop, inl, inr}
+use Rattle.std.proofs.Common.{take, drop, inl, inr}
 use Rattle.std.specs.Int.Bits.{xor_zero_r, xor_comm, xor_assoc}
 use Rattle.std.proofs.lemmas.Nat.{xor_of_8}
 use Rattle.std.proofs.lemmas.Bool.{and_parts, eqb-true, cases_lt}
 use Rattle.std.proofs.lemmas.List.{get_or-take, get_or-drop}
 use Rattle.std.proofs.lemmas.List.{get_or_past, length-take, length-take-le, length-drop, ext_get_or}
-use Rattle.std.proofs.lemmas.List.FromFn.{get_or-map-range_with_len}
 use Rattle.octets.specs.Bytes.{IsBlock, block_at}
 use Rattle.octets.specs.Polynomial.{product, residue}
 use Rattle.aes.specs.Field.{times, sbox}
@@ -18,6 +17,7 @@ use Rattle.aes.specs.Code.Lanes.{row_source, row_below, row_above, in_basis, lin
 use Rattle.aes.specs.Code.Planes.{word_byte, masked_byte}
 use Rattle.aes.specs.Code.ReadyKeys.{ready_byte}
 use Rattle.aes.proofs.Tested.{all_below, all_below_at}
+use Rattle.aes.proofs.Grids.{byte_grid, at_byte}
 use Rattle.aes.proofs.Multiples.{single_is, triple_is}
 use Rattle.aes.proofs.Rows.{dot_is}
 use Rattle.aes.proofs.ColumnWords.{column_small}
@@ -26,14 +26,6 @@ use Rattle.aes.proofs.Steps.{sbox_small, times_small, sub_block, shift_block}
 use Rattle.aes.proofs.FourBlocks.{same_lanes, in_basis_xor, linear_small}
 
 -- ---- bytes of the steps
--- byte p of a grid is that of its row and column
-byte_grid : (f : ℕ → ℕ → ℕ) (p : ℕ) → p < 16 → get_or (grid f) p 0 ≡ f (p % 4) (p / 4)
-byte_grid f p h = get_or-map-range_with_len (λ i. f (i % 4) (i / 4)) 0 16 p p 0 h (zero-add p)
-
--- the byte in row p mod 4 of column p / 4 is byte p
-at_byte : (s : List ℕ) (p : ℕ) → at s (p % 4) (p / 4) ≡ get_or s p 0
-at_byte s p = ap (λ i. get_or s i 0) (omega arith)
-
 -- byte p after AddRoundKey is byte p, XORed with its byte of the round key
 pub added_byte : (ws : List (List ℕ)) (s : List ℕ) (p : ℕ) → p < 16
     → get_or (add_round_key ws 0 s) p 0 ≡ bit_xor (get_or s p 0) (get_or (get_or ws (p / 4) []) (p % 4) 0)

@@ -1,16 +1,15 @@
 -- The inverse S-box and InvMixColumns at each byte, in the form in which the inverse cipher keeps its state.
-use Rattle.std.proofs.Common.{◌≡◌, ℕ, zero, suc, ◌+◌, ◌-◌, ◌*◌, ◌/◌, ◌%◌, ◌<◌, Bool, true, ◌==◌, List, []}
-use Rattle.std.proofs.Common.{◌∷◌, get_or, length, refl, sym, ap, ap₂, ◌∙◌, arith, bit_xor, zero-add}
+use Rattle.std.proofs.Common.{◌≡◌, ℕ, zero, suc, ◌+◌, ◌*◌, ◌/◌, ◌%◌, ◌<◌, Bool, true, ◌==◌, List, []}
+use Rattle.std.proofs.Common.{◌∷◌, get_or, length, refl, sym, ap, ap₂, ◌∙◌, arith, bit_xor}
 use Rattle.std.specs.Int.Bits.{xor_comm, xor_assoc}
 use Rattle.std.proofs.lemmas.Nat.{xor_shr, xor_mod, xor_of_8}
 use Rattle.std.proofs.lemmas.Bool.{eqb-true}
 use Rattle.std.proofs.lemmas.List.{ext_get_or}
-use Rattle.std.proofs.lemmas.List.FromFn.{get_or-map-range_with_len}
 use Rattle.aes.specs.Field.{times, sbox}
 use Rattle.aes.specs.Cipher.{at, grid, column, sub_bytes, shift_rows, add_round_key}
 use Rattle.aes.specs.Code.InverseSteps.{unmix_column, inverse_mix_columns, round_key}
-use Rattle.aes.specs.Code.InverseLanes.{HasSixteen, find, row_below, unshifted_from, mix_of, u_at, t_at, by_inverse, matrix_undone}
-use Rattle.aes.specs.Code.InverseLanes.{affine_undone, HoldsUndone}
+use Rattle.aes.specs.Code.Lanes.{HasLanes, entry, row_target, u_at, t_at, by_inverse}
+use Rattle.aes.specs.Code.InverseLanes.{row_below, mix_of, matrix_undone, affine_undone, HoldsUndone}
 use Rattle.aes.specs.declared.sbox.TheConstants.{SBOX}
 use Rattle.aes.specs.declared.inverse_lanes.TheConstants.{UNDONE_LOW, UNDONE_HIGH, PLAIN_BY_FIRST}
 use Rattle.aes.specs.declared.inverse_lanes.TheConstants.{PLAIN_BY_SECOND, FOURTEEN_BY_FIRST, FOURTEEN_BY_SECOND}
@@ -25,7 +24,9 @@ use Rattle.aes.proofs.Sums.{times_xor, xor_exchange}
 use Rattle.aes.proofs.Multiples.{product_of, times_is}
 use Rattle.aes.proofs.Rows.{dot_is}
 use Rattle.aes.proofs.Steps.{at_grid, times_small, unsbox, unsbox_sbox}
-use Rattle.aes.proofs.InverseLanes.{same_sixteen}
+use Rattle.aes.proofs.Grids.{byte_grid, at_byte}
+use Rattle.aes.proofs.FourBlocks.{same_lanes, linear_at}
+use Rattle.aes.proofs.Substitution.{both_looked}
 
 -- two functions that are tested to agree at each byte do
 tested : (g h : ℕ → ℕ) → all_below (λ y. g y == h y) 256 ≡ true → (y : ℕ) → y < 256 → g y ≡ h y
@@ -43,20 +44,6 @@ high_linear : all_below (λ k.
     get_or UNDONE_HIGH (bit_xor (k / 16) (k % 16)) 0 == bit_xor (get_or UNDONE_HIGH (k / 16) 0)
     (get_or UNDONE_HIGH (k % 16) 0)) 256 ≡ true
 high_linear = refl
-
--- a table of nibbles that passes that test takes sums to sums
-linear_at : (t : List ℕ) (a b : ℕ) → a < 16 → b < 16
-    → all_below (λ k. get_or t (bit_xor (k / 16) (k % 16)) 0 == bit_xor (get_or t (k / 16) 0)
-    (get_or t (k % 16) 0)) 256 ≡ true
-    → get_or t (bit_xor a b) 0 ≡ bit_xor (get_or t a 0) (get_or t b 0)
-linear_at t a b ha hb test =
-    let k : ℕ = a * 16 + b in
-    let first : k / 16 ≡ a = omega arith in
-    let second : k % 16 ≡ b = omega arith in
-    sym (ap₂ (λ (x y : ℕ). get_or t (bit_xor x y) 0) first second)
-    ∙ tested (λ k. get_or t (bit_xor (k / 16) (k % 16)) 0) (λ k. bit_xor (get_or t (k / 16) 0) (get_or t (k % 16) 0))
-    test k (omega arith)
-    ∙ ap₂ (λ (x y : ℕ). bit_xor (get_or t x 0) (get_or t y 0)) first second
 
 -- `matrix_undone` takes sums to sums
 pub undone_xor : (x y : ℕ) → x < 256 → y < 256
@@ -92,7 +79,7 @@ mix_exchange a b c d p q r s =
 -- ---- two tables, tested at each byte
 -- the XOR of two tables' entries at the nibbles of a byte
 abbrev by_nibbles : List ℕ → List ℕ → ℕ → ℕ
-by_nibbles p q y = bit_xor (find p (y % 16)) (find q (y / 16))
+by_nibbles p q y = bit_xor (entry p (y % 16)) (entry q (y / 16))
 
 -- whether two tables of nibbles give n times the byte
 abbrev gives_multiple : ℕ → List ℕ → List ℕ → ℕ → Bool
@@ -145,45 +132,41 @@ multiple_is n y h l = sym (times_comm n y ∙ times_is 4 y n l (omega arith) h)
 -- ---- lanes
 -- if the lanes are two tables' entries at the nibbles of bytes, and the tables were tested for n, they are n times the bytes
 pub key_lanes : (n : ℕ) (p q v low high x : List ℕ) → n < 16
-    → HasSixteen v (λ k. bit_xor (find p (get_or low k 0)) (find q (get_or high k 0)))
-    → HasSixteen low (λ k. get_or x k 0 % 16) → HasSixteen high (λ k. get_or x k 0 / 16)
+    → HasLanes 16 v (λ k. bit_xor (entry p (get_or low k 0)) (entry q (get_or high k 0)))
+    → HasLanes 16 low (λ k. get_or x k 0 % 16) → HasLanes 16 high (λ k. get_or x k 0 / 16)
     → ((k : ℕ) → get_or x k 0 < 256) → all_below (gives_multiple n p q) 256 ≡ true
-    → HasSixteen v (λ k. matrix_undone (times n (get_or x k 0)))
+    → HasLanes 16 v (λ k. matrix_undone (times n (get_or x k 0)))
 key_lanes n p q v low high x h made l u small test =
-    same_sixteen v made (λ k within.
-    ap₂ (λ (i j : ℕ). bit_xor (find p i) (find q j)) (l.each k within) (u.each k within)
-    ∙ tested (by_nibbles p q) (λ y. matrix_undone (product_of 4 y n)) test (get_or x k 0) (small k)
+    same_lanes v (both_looked p q made l u) (λ k within.
+    tested (by_nibbles p q) (λ y. matrix_undone (product_of 4 y n)) test (get_or x k 0) (small k)
     ∙ ap matrix_undone (multiple_is n (get_or x k 0) h (small k)))
 
 -- if the lanes are the UNDONE tables' entries at the nibbles of bytes, they are the bytes with the matrix undone
 pub plain_key_lanes : (v low high x : List ℕ)
-    → HasSixteen v (λ k. bit_xor (find UNDONE_LOW (get_or low k 0)) (find UNDONE_HIGH (get_or high k 0)))
-    → HasSixteen low (λ k. get_or x k 0 % 16) → HasSixteen high (λ k. get_or x k 0 / 16)
-    → ((k : ℕ) → get_or x k 0 < 256) → HasSixteen v (λ k. matrix_undone (get_or x k 0))
+    → HasLanes 16 v (λ k. bit_xor (entry UNDONE_LOW (get_or low k 0)) (entry UNDONE_HIGH (get_or high k 0)))
+    → HasLanes 16 low (λ k. get_or x k 0 % 16) → HasLanes 16 high (λ k. get_or x k 0 / 16)
+    → ((k : ℕ) → get_or x k 0 < 256) → HasLanes 16 v (λ k. matrix_undone (get_or x k 0))
 plain_key_lanes v low high x made l u small =
-    same_sixteen v made (λ k within.
-    ap₂ (λ (i j : ℕ). bit_xor (find UNDONE_LOW i) (find UNDONE_HIGH j)) (l.each k within) (u.each k within)
-    ∙ tested (by_nibbles UNDONE_LOW UNDONE_HIGH) (λ y. matrix_undone y) plain_key (get_or x k 0) (small k))
+    same_lanes v (both_looked UNDONE_LOW UNDONE_HIGH made l u) (λ k within.
+    tested (by_nibbles UNDONE_LOW UNDONE_HIGH) (λ y. matrix_undone y) plain_key (get_or x k 0) (small k))
 
 -- the nibbles of the inverses of lanes x that hold S-box values with the affine map undone
 inverse_lanes : (p q v u t x : List ℕ) (s : ℕ → ℕ)
-    → HasSixteen v (λ k. bit_xor (find p (get_or u k 0)) (find q (get_or t k 0)))
-    → HasSixteen u (λ k. u_at (get_or x k 0)) → HasSixteen t (λ k. t_at (get_or x k 0))
-    → HasSixteen x (λ k. affine_undone (sbox (s k))) → HasSixteen v (λ k. by_inverse p q (affine_undone (sbox (s k))))
+    → HasLanes 16 v (λ k. bit_xor (entry p (get_or u k 0)) (entry q (get_or t k 0)))
+    → HasLanes 16 u (λ k. u_at (get_or x k 0)) → HasLanes 16 t (λ k. t_at (get_or x k 0))
+    → HasLanes 16 x (λ k. affine_undone (sbox (s k))) → HasLanes 16 v (λ k. by_inverse p q (affine_undone (sbox (s k))))
 inverse_lanes p q v u t x s made hu ht held =
-    same_sixteen v made (λ k l.
-    ap₂ (λ (i j : ℕ). bit_xor (find p i) (find q j)) (hu.each k l) (ht.each k l)
-    ∙ ap (by_inverse p q) (held.each k l))
+    same_lanes v (both_looked p q made hu ht) (λ k l. ap (by_inverse p q) (held.each k l))
 
 -- if the lanes are two tables' entries at the nibbles of inverses, and the tables were tested for n, they are n times the bytes
 -- that the S-box takes to the lanes
 pub state_lanes : (n : ℕ) (p q v u t x : List ℕ) (s : ℕ → ℕ) → n < 16
-    → HasSixteen v (λ k. bit_xor (find p (get_or u k 0)) (find q (get_or t k 0)))
-    → HasSixteen u (λ k. u_at (get_or x k 0)) → HasSixteen t (λ k. t_at (get_or x k 0))
-    → HasSixteen x (λ k. affine_undone (sbox (s k))) → ((k : ℕ) → s k < 256)
-    → all_below (gives_inverse n p q) 256 ≡ true → HasSixteen v (λ k. matrix_undone (times n (s k)))
+    → HasLanes 16 v (λ k. bit_xor (entry p (get_or u k 0)) (entry q (get_or t k 0)))
+    → HasLanes 16 u (λ k. u_at (get_or x k 0)) → HasLanes 16 t (λ k. t_at (get_or x k 0))
+    → HasLanes 16 x (λ k. affine_undone (sbox (s k))) → ((k : ℕ) → s k < 256)
+    → all_below (gives_inverse n p q) 256 ≡ true → HasLanes 16 v (λ k. matrix_undone (times n (s k)))
 state_lanes n p q v u t x s h made hu ht held small test =
-    same_sixteen v (inverse_lanes p q v u t x s made hu ht held) (λ k l.
+    same_lanes v (inverse_lanes p q v u t x s made hu ht held) (λ k l.
     ap (λ (z : ℕ). by_inverse p q (affine_undone z)) (sym (sbox_at (s k) (small k)))
     ∙ tested (λ y. by_inverse p q (affine_undone (get_or SBOX y 0))) (λ y. matrix_undone (product_of 4 y n)) test (s k)
     (small k)
@@ -191,23 +174,15 @@ state_lanes n p q v u t x s h made hu ht held small test =
 
 -- if the lanes are the entries of the PLAIN tables at the nibbles of inverses, they are the bytes that the S-box takes to the lanes
 pub plain_state_lanes : (v u t x : List ℕ) (s : ℕ → ℕ)
-    → HasSixteen v (λ k. bit_xor (find PLAIN_BY_FIRST (get_or u k 0)) (find PLAIN_BY_SECOND (get_or t k 0)))
-    → HasSixteen u (λ k. u_at (get_or x k 0)) → HasSixteen t (λ k. t_at (get_or x k 0))
-    → HasSixteen x (λ k. affine_undone (sbox (s k))) → ((k : ℕ) → s k < 256) → HasSixteen v s
+    → HasLanes 16 v (λ k. bit_xor (entry PLAIN_BY_FIRST (get_or u k 0)) (entry PLAIN_BY_SECOND (get_or t k 0)))
+    → HasLanes 16 u (λ k. u_at (get_or x k 0)) → HasLanes 16 t (λ k. t_at (get_or x k 0))
+    → HasLanes 16 x (λ k. affine_undone (sbox (s k))) → ((k : ℕ) → s k < 256) → HasLanes 16 v s
 unfolding unsbox
 plain_state_lanes v u t x s made hu ht held small =
-    same_sixteen v (inverse_lanes PLAIN_BY_FIRST PLAIN_BY_SECOND v u t x s made hu ht held)
+    same_lanes v (inverse_lanes PLAIN_BY_FIRST PLAIN_BY_SECOND v u t x s made hu ht held)
     (λ k l. unsbox_sbox (s k) (small k))
 
 -- ---- bytes of the steps
--- byte p of a grid is that of its row and column
-pub byte_grid : (f : ℕ → ℕ → ℕ) (p : ℕ) → p < 16 → get_or (grid f) p 0 ≡ f (p % 4) (p / 4)
-byte_grid f p h = get_or-map-range_with_len (λ i. f (i % 4) (i / 4)) 0 16 p p 0 h (zero-add p)
-
--- the byte in row p mod 4 of column p / 4 is byte p
-at_byte : (s : List ℕ) (p : ℕ) → at s (p % 4) (p / 4) ≡ get_or s p 0
-at_byte s p = ap (λ i. get_or s i 0) (omega arith)
-
 -- byte p after AddRoundKey is byte p, XORed with that of the round key
 pub added_byte : (ws : List (List ℕ)) (n : ℕ) (s : List ℕ) (p : ℕ) → p < 16
     → get_or (add_round_key ws n s) p 0 ≡ bit_xor (get_or s p 0) (get_or (round_key ws n) p 0)
@@ -218,12 +193,12 @@ added_byte ws n s p h =
 
 -- InvShiftRows takes SubBytes and ShiftRows back to SubBytes
 back_byte : (s : List ℕ) (i : ℕ) → i < 16
-    → get_or (shift_rows (sub_bytes s)) (unshifted_from i) 0 ≡ sbox (get_or s i 0)
+    → get_or (shift_rows (sub_bytes s)) (row_target i) 0 ≡ sbox (get_or s i 0)
 unfolding shift_rows sub_bytes
 back_byte s i l =
     let sub : List ℕ = grid (λ r c. sbox (at s r c)) in
-    let back : ((i / 4 + (4 - i % 4)) % 4 + i % 4) % 4 ≡ i / 4 = omega arith in
-    at_grid (λ r c. at sub r ((c + r) % 4)) (i % 4) ((i / 4 + (4 - i % 4)) % 4) (omega arith) (omega arith)
+    let back : ((i / 4 + 3 * (i % 4)) % 4 + i % 4) % 4 ≡ i / 4 = omega arith in
+    at_grid (λ r c. at sub r ((c + r) % 4)) (i % 4) ((i / 4 + 3 * (i % 4)) % 4) (omega arith) (omega arith)
     ∙ ap (at sub (i % 4)) back ∙ at_grid (λ r c. sbox (at s r c)) (i % 4) (i / 4) (omega arith) (omega arith)
     ∙ ap sbox (at_byte s i)
 
@@ -233,7 +208,7 @@ turned a b c d =
     xor_comm a (bit_xor b (bit_xor c d)) ∙ xor_assoc b (bit_xor c d) a ∙ ap (bit_xor b) (xor_assoc c d a)
 
 -- InvShiftRows moves bytes from places below 16
-pub unshifted_small : (i : ℕ) → unshifted_from i < 16
+pub unshifted_small : (i : ℕ) → row_target i < 16
 unshifted_small i = omega arith
 
 -- row r of a column after InvMixColumns, from that row and the rows below it
@@ -283,11 +258,11 @@ unmixed_byte s i l =
 
 -- lanes that are the sums of the multiples in the basis, and a key, are `unmixed` in the basis, and the key
 pub mixed_lanes : (v a b c d k : List ℕ) (s key : ℕ → ℕ)
-    → HasSixteen v (λ i. bit_xor (mix_of (get_or a (unshifted_from i) 0) (get_or b (row_below 1 (unshifted_from i)) 0)
-    (get_or c (row_below 2 (unshifted_from i)) 0) (get_or d (row_below 3 (unshifted_from i)) 0)) (get_or k i 0))
-    → HasSixteen a (λ i. matrix_undone (times 14 (s i))) → HasSixteen b (λ i. matrix_undone (times 11 (s i)))
-    → HasSixteen c (λ i. matrix_undone (times 13 (s i))) → HasSixteen d (λ i. matrix_undone (times 9 (s i)))
-    → HasSixteen k key → HasSixteen v (λ i. bit_xor (matrix_undone (unmixed s (unshifted_from i))) (key i))
+    → HasLanes 16 v (λ i. bit_xor (mix_of (get_or a (row_target i) 0) (get_or b (row_below 1 (row_target i)) 0)
+    (get_or c (row_below 2 (row_target i)) 0) (get_or d (row_below 3 (row_target i)) 0)) (get_or k i 0))
+    → HasLanes 16 a (λ i. matrix_undone (times 14 (s i))) → HasLanes 16 b (λ i. matrix_undone (times 11 (s i)))
+    → HasLanes 16 c (λ i. matrix_undone (times 13 (s i))) → HasLanes 16 d (λ i. matrix_undone (times 9 (s i)))
+    → HasLanes 16 k key → HasLanes 16 v (λ i. bit_xor (matrix_undone (unmixed s (row_target i))) (key i))
 unfolding unmixed
 mixed_lanes v a b c d k s key made ha hb hc hd hk =
     let at : (j : ℕ) → j < 16
@@ -299,26 +274,26 @@ mixed_lanes v a b c d k s key made ha hb hc hd hk =
     ∙ mix_undone (times 14 (s j)) (times 11 (s (row_below 1 j))) (times 13 (s (row_below 2 j)))
     (times 9 (s (row_below 3 j))) (times_small 14 (s j)) (times_small 11 (s (row_below 1 j)))
     (times_small 13 (s (row_below 2 j))) (times_small 9 (s (row_below 3 j))) in
-    same_sixteen v made (λ i l. ap₂ bit_xor (at (unshifted_from i) (unshifted_small i)) (hk.each i l))
+    same_lanes v made (λ i l. ap₂ bit_xor (at (row_target i) (unshifted_small i)) (hk.each i l))
 
 -- ---- whole blocks
 -- a vector is a block if its lanes are the bytes
-pub is_block : (v b : List ℕ) → length b ≡ 16 → HasSixteen v (λ i. get_or b i 0) → v ≡ b
+pub is_block : (v b : List ℕ) → length b ≡ 16 → HasLanes 16 v (λ i. get_or b i 0) → v ≡ b
 is_block v b long held =
     ext_get_or 0 v b (held.long ∙ sym long) (λ i l. held.each i (omega (arith, held.long)))
 
 -- a state after SubBytes and ShiftRows holds S-box values with the affine map undone
 pub back_lanes : (x s : List ℕ) → HoldsUndone x (shift_rows (sub_bytes s))
-    → HasSixteen x (λ i. affine_undone (sbox (get_or s i 0)))
-back_lanes x s held = same_sixteen x held (λ i l. ap (λ (y : ℕ). affine_undone y) (back_byte s i l))
+    → HasLanes 16 x (λ i. affine_undone (sbox (get_or s i 0)))
+back_lanes x s held = same_lanes x held (λ i l. ap (λ (y : ℕ). affine_undone y) (back_byte s i l))
 
 -- a round key after InvMixColumns, in the form in which the state is kept
 pub middle_is : (v x : List ℕ)
-    → HasSixteen v (λ i. bit_xor (matrix_undone (unmixed (λ k. get_or x k 0) (unshifted_from i))) 0x12)
+    → HasLanes 16 v (λ i. bit_xor (matrix_undone (unmixed (λ k. get_or x k 0) (row_target i))) 0x12)
     → HoldsUndone v (inverse_mix_columns x)
 middle_is v x held =
-    same_sixteen v held (λ i l.
-    ap (λ (y : ℕ). affine_undone y) (sym (unmixed_byte x (unshifted_from i) (unshifted_small i))))
+    same_lanes v held (λ i l.
+    ap (λ (y : ℕ). affine_undone y) (sym (unmixed_byte x (row_target i) (unshifted_small i))))
 
 -- the sum of the multiples of a state and of a round key is the sum of the multiples of both
 unmixed_sum : (s : List ℕ) (ws : List (List ℕ)) (n i : ℕ) → i < 16
@@ -348,7 +323,7 @@ unmixed_small s i =
 
 -- the sum of the multiples of a state and a round key after InvMixColumns is AddRoundKey and then InvMixColumns
 pub round_is : (v k s : List ℕ) (ws : List (List ℕ)) (n : ℕ) → HoldsUndone k (inverse_mix_columns (round_key ws n))
-    → HasSixteen v (λ i. bit_xor (matrix_undone (unmixed (λ k. get_or s k 0) (unshifted_from i))) (get_or k i 0))
+    → HasLanes 16 v (λ i. bit_xor (matrix_undone (unmixed (λ k. get_or s k 0) (row_target i))) (get_or k i 0))
     → HoldsUndone v (inverse_mix_columns (add_round_key ws n s))
 round_is v k s ws n e held =
     let key : List ℕ = round_key ws n in
@@ -360,7 +335,7 @@ round_is v k s ws n e held =
     ∙ ap (λ (z : ℕ). bit_xor z 0x12)
     (undone_xor (x j) (y j) (unmixed_small (λ k. get_or s k 0) j) (unmixed_small (λ k. get_or key k 0) j)
     ∙ ap matrix_undone (unmixed_sum s ws n j l)) in
-    middle_is v (add_round_key ws n s) (same_sixteen v held (λ i l.
-    ap (bit_xor (matrix_undone (x (unshifted_from i))))
-    (e.each i l ∙ ap (λ (z : ℕ). affine_undone z) (unmixed_byte key (unshifted_from i) (unshifted_small i)))
-    ∙ sums (unshifted_from i) (unshifted_small i)))
+    middle_is v (add_round_key ws n s) (same_lanes v held (λ i l.
+    ap (bit_xor (matrix_undone (x (row_target i))))
+    (e.each i l ∙ ap (λ (z : ℕ). affine_undone z) (unmixed_byte key (row_target i) (unshifted_small i)))
+    ∙ sums (row_target i) (unshifted_small i)))

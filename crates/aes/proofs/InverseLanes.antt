@@ -1,140 +1,19 @@
 -- One block in a vector of 16 bytes: lanes, look-ups, and the rows that shifts of columns move.
 use Rattle.std.proofs.Common.{◌≡◌, ℕ, zero, suc, ◌+◌, ◌-◌, ◌*◌, ◌/◌, ◌%◌, ◌^◌, ◌<◌, ◌≤◌, Bool, true, false, cond}
-use Rattle.std.proofs.Common.{◌&&◌, ◌||◌, ◌==◌, T, ltb, leb, nat_lt, nat_le, List, [], ◌∷◌, ◌++◌, map, get_or, length}
-use Rattle.std.proofs.Common.{replicate, refl, sym, ap, ap₂, subst, ◌∙◌, arith, rules, bit_and, bit_xor, w8, Fits, ltb-true, leb-true, ltb-false, leb-false}
-use Rattle.std.proofs.Common.{inl, inr}
+use Rattle.std.proofs.Common.{nat_lt, nat_le, List, [], ◌∷◌, ◌++◌, map, get_or, length}
+use Rattle.std.proofs.Common.{replicate, refl, sym, ap, ap₂, ◌∙◌, arith, bit_xor, w8, Fits, ltb-true, leb-true, ltb-false, leb-false}
 use Rattle.std.proofs.Math.Nat.{mod-lt}
-use Rattle.std.proofs.lemmas.Nat.{xor_mod, xor_of_8, xor_lt, and_mask}
-use Rattle.std.proofs.lemmas.Bool.{and_parts, eqb-true, cases_lt}
-use Rattle.std.proofs.lemmas.List.{get_or-map, length-map, get_or_append_left, get_or-replicate, length-replicate}
-use Rattle.std.proofs.lemmas.Simd.{Each1-from_get_or, length-zip2, get_or-zip2, swz_l, SwzOk, SwzOk-from_Each1}
-use Rattle.std.proofs.lemmas.Simd.{length-swz_l, get_or-swz_l, get_or_wider, get_or_narrower, get_or-chunk, length-chunk}
+use Rattle.std.proofs.lemmas.List.{get_or-replicate, length-replicate}
+use Rattle.std.proofs.lemmas.Simd.{Each1-from_get_or, get_or-zip2}
+use Rattle.std.proofs.lemmas.Simd.{get_or_wider, get_or_narrower, get_or-chunk, length-chunk}
 use lib.Lanes.{zip2, Each1, chunk, number_l, digits_l}
 use Rattle.std.specs.Int.Bits.{xor_zero_r, xor_zero_l, xor_comm, xor_assoc}
-use Rattle.aes.specs.Code.InverseLanes.{HasSixteen, IsShortPlace, find, row_below, unshifted_from, mix_of}
-use Rattle.aes.proofs.Tested.{all_below, all_below_at}
+use Rattle.aes.specs.Code.Lanes.{HasLanes, row_target}
+use Rattle.aes.specs.Code.InverseLanes.{row_below, mix_of}
+use Rattle.aes.proofs.FourBlocks.{same_lanes, lane_fits, picked}
 use Rattle.aes.proofs.Rows.{four}
 use Rattle.aes.proofs.Sums.{xor_exchange}
 use Rattle.aes.proofs.Steps.{quad}
-
--- a vector whose lanes hold f holds g too, if f and g agree on all 16 lanes
-pub same_sixteen : {f g : ℕ → ℕ} (v : List ℕ) → HasSixteen v f → ((k : ℕ) → k < 16 → f k ≡ g k) → HasSixteen v g
-same_sixteen v h same = record { long = h.long; each = λ k l. h.each k l ∙ same k l }
-
--- each lane of a vector of bytes is below 256
-pub lane_small : (v : List ℕ) (i : ℕ) → Each1 (Fits w8) v → get_or v i 0 < 256
-lane_small [] i h = omega arith
-lane_small (x ∷ xs) zero h = h.0.fits
-lane_small (x ∷ xs) (suc i) h = lane_small xs i h.1
-
--- an operator on two vectors acts on each pair of lanes
-sixteen-zip2 : (g : ℕ → ℕ → ℕ) (x y : List ℕ) → length x ≡ 16 → length y ≡ 16
-    → HasSixteen (zip2 g x y) (λ k. g (get_or x k 0) (get_or y k 0))
-sixteen-zip2 g x y hx hy = record {
-  long = length-zip2 g x y (hx ∙ sym hy) ∙ hx;
-  each = λ k l. get_or-zip2 g x y k 0 0 0 (omega arith) (omega arith);
-}
-
--- an operator on a vector and one number in each lane acts on each lane with that number
-sixteen-splat : (g : ℕ → ℕ → ℕ) (x : List ℕ) (n : ℕ) → length x ≡ 16
-    → HasSixteen (zip2 g x (replicate 16 n)) (λ k. g (get_or x k 0) n)
-sixteen-splat g x n hx =
-    same_sixteen (zip2 g x (replicate 16 n)) (sixteen-zip2 g x (replicate 16 n) hx (length-replicate 16 n))
-    (λ k l. ap (g (get_or x k 0)) (get_or-replicate {A = ℕ} 16 k n 0 l))
-
--- a vector of one number in each lane holds that number
-pub splat_sixteen : (n : ℕ) → HasSixteen (replicate 16 n) (λ i. n)
-splat_sixteen n = record { long = length-replicate 16 n; each = λ k l. get_or-replicate {A = ℕ} 16 k n 0 l }
-
--- the XOR of two vectors holds the XOR of their lanes
-pub sum_sixteen : (x y : List ℕ) → length x ≡ 16 → length y ≡ 16
-    → HasSixteen (zip2 bit_xor x y) (λ k. bit_xor (get_or x k 0) (get_or y k 0))
-sum_sixteen x y hx hy = sixteen-zip2 bit_xor x y hx hy
-
--- a vector masked with 15 holds the low nibbles
-pub low_sixteen : (x : List ℕ) → length x ≡ 16 → HasSixteen (zip2 bit_and x (replicate 16 15)) (λ k. get_or x k 0 % 16)
-low_sixteen x hx = same_sixteen _ (sixteen-splat bit_and x 15 hx) (λ k l. and_mask (get_or x k 0) 4)
-
--- a vector shifted by 4 bits holds the high nibbles
-pub high_sixteen : (x : List ℕ) → length x ≡ 16
-    → HasSixteen (zip2 (λ a b. a / 2 ^ b) x (replicate 16 4)) (λ k. get_or x k 0 / 16)
-high_sixteen x hx = sixteen-splat (λ a b. a / 2 ^ b) x 4 hx
-
--- if the lanes of v are entries of a table at the lanes of a, and those are g, they are the entries at g
-pub via_find : (t : List ℕ) (g : ℕ → ℕ) (v a : List ℕ) → HasSixteen v (λ k. find t (get_or a k 0)) → HasSixteen a g
-    → HasSixteen v (λ k. find t (g k))
-via_find t g v a h e = same_sixteen v h (λ k l. ap (find t) (e.each k l))
-
--- if the lanes of v are sums of the lanes of a and b, and those are g and h, they are the sums of g and h
-pub via_sum : (g h : ℕ → ℕ) (v a b : List ℕ) → HasSixteen v (λ k. bit_xor (get_or a k 0) (get_or b k 0))
-    → HasSixteen a g → HasSixteen b h → HasSixteen v (λ k. bit_xor (g k) (h k))
-via_sum g h v a b e x y = same_sixteen v e (λ k l. ap₂ bit_xor (x.each k l) (y.each k l))
-
--- ---- places
--- lanes that are g are places, if g is
-pub placed : {g : ℕ → ℕ} (v : List ℕ) → HasSixteen v g → ((k : ℕ) → k < 16 → IsShortPlace (g k)) → (k : ℕ) → k < 16
-    → IsShortPlace (get_or v k 0)
-placed v h ok k l = subst IsShortPlace (sym (h.each k l)) (ok k l)
-
--- a low nibble is a place
-pub low_place : (x : ℕ) → IsShortPlace (x % 16)
-low_place x = (omega arith, omega arith)
-
--- a high nibble of a byte is a place
-pub high_place : (x : ℕ) → x < 256 → IsShortPlace (x / 16)
-high_place x h = (omega arith, omega arith)
-
--- the sum of two places is a place
-pub sum_place : (a b : ℕ) → IsShortPlace a → IsShortPlace b → IsShortPlace (bit_xor a b)
-sum_place a b ha hb =
-    let rest : bit_xor a b % 2 ^ 7 ≡ bit_xor (a % 2 ^ 7) (b % 2 ^ 7) = xor_mod a b 7 in
-    let low : bit_xor (a % 2 ^ 7) (b % 2 ^ 7) < 2 ^ 4 = xor_lt 4 (a % 2 ^ 7) (b % 2 ^ 7) (omega (arith, ha.0)) (omega (arith, hb.0)) in
-    (omega arith, xor_of_8 a b ha.1 hb.1)
-
--- an entry of a table of places is a place
-find_by : (t : List ℕ) (j : ℕ) → IsShortPlace j → ((k : ℕ) → k < 16 → IsShortPlace (get_or t k 0)) → (b : Bool)
-    → leb 128 j ≡ b → IsShortPlace (cond b 0 (get_or t j 0))
-find_by t j h ok true e = (omega arith, omega arith)
-find_by t j h ok false e = elim (cases_lt j 128) [
-  | inl below ↦ ok j (omega (arith, h.0))
-  | inr above ↦ absurd (search rules)
-]
-
--- an entry of a table of places is a place
-pub find_place : (t : List ℕ) (j : ℕ) → IsShortPlace j → ((k : ℕ) → k < 16 → IsShortPlace (get_or t k 0))
-    → IsShortPlace (find t j)
-find_place t j h ok = find_by t j h ok (leb 128 j) refl
-
--- a test at each entry of a table shows that its entries are places
-pub tested_places : (t : List ℕ) → all_below (λ i. ltb (get_or t i 0 % 128) 16 && ltb (get_or t i 0) 256) 16 ≡ true
-    → (k : ℕ) → k < 16 → IsShortPlace (get_or t k 0)
-tested_places t h k l =
-    let both = and_parts (ltb (get_or t k 0 % 128) 16) (ltb (get_or t k 0) 256)
-    (all_below_at (λ i. ltb (get_or t i 0 % 128) 16 && ltb (get_or t i 0) 256) 16 k h l) in
-    (ltb-true (get_or t k 0 % 128) 16 both.0, ltb-true (get_or t k 0) 256 both.1)
-
--- a place passes the test of a look-up
-place_T : (j : ℕ) → IsShortPlace j → T (leb 128 j || ltb j 16)
-place_T j h = elim (cases_lt j 16) [
-  | inl l ↦ search rules
-  | inr l ↦ let far : 128 ≤ j = omega (arith, h.0) in search rules
-]
-
--- a look-up is allowed at places
-pub find_ok : (at : List ℕ) → length at ≡ 16 → ((k : ℕ) → k < 16 → IsShortPlace (get_or at k 0)) → SwzOk w8 16 16 0 at
-find_ok at long ok =
-    SwzOk-from_Each1 w8 16 1 16 0 at refl (omega arith)
-    (Each1-from_get_or (λ j. T (leb 128 j || ltb j 16)) at 0 (λ i h. place_T (get_or at i 0) (ok i (omega arith))))
-
--- a look-up gives each lane the entry of the table
-pub found : (t at : List ℕ) → length at ≡ 16 → HasSixteen (swz_l w8 16 t 0 at) (λ k. find t (get_or at k 0))
-found t at long = record {
-  long = length-swz_l w8 16 t 0 at ∙ long;
-  each = λ k l.
-      let own : 16 * ((0 + k) / 16) + get_or at k 0 ≡ get_or at k 0 = omega arith in
-      get_or-swz_l w8 16 t 0 at k (omega arith)
-      ∙ ap (λ (j : ℕ). cond (leb 128 (get_or at k 0)) 0 (get_or t j 0)) own;
-}
 
 -- ---- rows
 abbrev sources : List ℕ
@@ -143,32 +22,15 @@ sources = 0 ∷ 13 ∷ 10 ∷ 7 ∷ 4 ∷ 1 ∷ 14 ∷ 11 ∷ 8 ∷ 5 ∷ 2 ∷ 
 abbrev next_sources : List ℕ
 next_sources = 1 ∷ 14 ∷ 11 ∷ 4 ∷ 5 ∷ 2 ∷ 15 ∷ 8 ∷ 9 ∷ 6 ∷ 3 ∷ 12 ∷ 13 ∷ 10 ∷ 7 ∷ 0 ∷ []
 
--- whether item i of a list of indices is that of a function, and an index below 16
-abbrev is_source : List ℕ → (ℕ → ℕ) → ℕ → Bool
-is_source p f i = (get_or p i 0 == f i) && ltb (get_or p i 0) 16
-
--- picking lanes at sixteen indices gives each lane that of a function, if the indices were tested to be that function's
-picked : (p : List ℕ) (f : ℕ → ℕ) (x : List ℕ) → length x ≡ 16 → length p ≡ 16 → all_below (is_source p f) 16 ≡ true
-    → HasSixteen (map (λ p. get_or (x ++ x) p 0) p) (λ i. get_or x (f i) 0)
-picked p f x hx hp test = record {
-  long = length-map p (λ p. get_or (x ++ x) p 0) ∙ hp;
-  each = λ k l.
-      let both = and_parts (get_or p k 0 == f k) (ltb (get_or p k 0) 16) (all_below_at (is_source p f) 16 k test l) in
-      let small : get_or p k 0 < 16 = ltb-true (get_or p k 0) 16 both.1 in
-      get_or-map (λ p. get_or (x ++ x) p 0) p k 0 0 (omega arith)
-      ∙ get_or_append_left x x 0 (get_or p k 0) (omega arith)
-      ∙ ap (λ p. get_or x p 0) (eqb-true (get_or p k 0) (f k) both.0);
-}
-
--- picking lanes at the indices of the code gives each lane that of `unshifted_from`
+-- picking lanes at the indices of the code gives each lane that of `row_target`
 pub unshifted : (x : List ℕ) → length x ≡ 16
-    → HasSixteen (map (λ p. get_or (x ++ x) p 0) sources) (λ i. get_or x (unshifted_from i) 0)
-unshifted x hx = picked sources (λ i. unshifted_from i) x hx refl refl
+    → HasLanes 16 (map (λ p. get_or (x ++ x) p 0) sources) (λ i. get_or x (row_target i) 0)
+unshifted x hx = picked x sources (λ i. row_target i) 16 16 hx refl refl
 
 -- picking lanes at the other indices of the code gives each lane that of the row below
 pub unshifted_next : (x : List ℕ) → length x ≡ 16
-    → HasSixteen (map (λ p. get_or (x ++ x) p 0) next_sources) (λ i. get_or x (row_below 1 (unshifted_from i)) 0)
-unshifted_next x hx = picked next_sources (λ i. row_below 1 (unshifted_from i)) x hx refl refl
+    → HasLanes 16 (map (λ p. get_or (x ++ x) p 0) next_sources) (λ i. get_or x (row_below 1 (row_target i)) 0)
+unshifted_next x hx = picked x next_sources (λ i. row_below 1 (row_target i)) 16 16 hx refl refl
 
 -- the number that four bytes spell
 abbrev word : ℕ → ℕ → ℕ → ℕ → ℕ
@@ -214,10 +76,10 @@ column_small : (x : List ℕ) (j : ℕ) → Each1 (Fits w8) x
     → get_or x (4 * j + 0) 0 < 256 × (get_or x (4 * j + 1) 0 < 256) × (get_or x (4 * j + 2) 0 < 256)
     × (get_or x (4 * j + 3) 0 < 256)
 column_small x j fits = (
-  lane_small x (4 * j + 0) fits,
-  lane_small x (4 * j + 1) fits,
-  lane_small x (4 * j + 2) fits,
-  lane_small x (4 * j + 3) fits,
+  lane_fits x (4 * j + 0) fits,
+  lane_fits x (4 * j + 1) fits,
+  lane_fits x (4 * j + 2) fits,
+  lane_fits x (4 * j + 3) fits,
 )
 
 -- an operator on columns, as numbers, gives byte k the byte of that number
@@ -266,7 +128,7 @@ down x i = cond (nat_le 2 (i % 4)) (get_or x (i - 2) 0) 0
 
 -- columns that are shifted right by two bytes give each lane the lane two rows below, or 0
 pub up_sixteen : (x : List ℕ) → length x ≡ 16 → Each1 (Fits w8) x
-    → HasSixteen
+    → HasLanes 16
     (digits_l 256 16 (number_l (2 ^ 32) (zip2 (λ a b. a / 2 ^ b) (digits_l (2 ^ 32) 4 (number_l 256 x)) (replicate 4 16))))
     (up x)
 up_sixteen x hx fits = record {
@@ -282,7 +144,7 @@ up_sixteen x hx fits = record {
 
 -- columns that are shifted left by two bytes give each lane the lane two rows above, or 0
 pub down_sixteen : (x : List ℕ) → length x ≡ 16 → Each1 (Fits w8) x
-    → HasSixteen
+    → HasLanes 16
     (digits_l 256 16 (number_l (2 ^ 32)
     (zip2 (λ a b. a * 2 ^ b % 2 ^ 32) (digits_l (2 ^ 32) 4 (number_l 256 x)) (replicate 4 16))))
     (down x)
@@ -297,8 +159,12 @@ down_sixteen x hx fits = record {
       column_byte x (4 * (k / 4)) (k % 4 - 2) (omega arith) ∙ ap (λ (i : ℕ). get_or x i 0) place);
 }
 
+-- a vector of one number in each lane holds that number
+pub splat_lanes : (n : ℕ) → HasLanes 16 (replicate 16 n) (λ i. n)
+splat_lanes n = record { long = length-replicate 16 n; each = λ k l. get_or-replicate {A = ℕ} 16 k n 0 l }
+
 -- a vector of 16 lanes holds its own lanes
-pub own_lanes : (v : List ℕ) → length v ≡ 16 → HasSixteen v (λ i. get_or v i 0)
+pub own_lanes : (v : List ℕ) → length v ≡ 16 → HasLanes 16 v (λ i. get_or v i 0)
 own_lanes v long = record { long = long; each = λ k l. refl }
 
 -- ---- rotations of columns by two rows, in two parts
@@ -323,10 +189,10 @@ both_parts x i l false false e f =
     absurd (omega arith)
 
 -- lanes to which the two parts are added one after the other have the lane two rows below added to them
-pub turned : (v a y : List ℕ) → HasSixteen v (λ i. bit_xor (bit_xor (get_or a i 0) (up y i)) (down y i))
-    → HasSixteen v (λ i. bit_xor (get_or a i 0) (get_or y (row_below 2 i) 0))
+pub turned : (v a y : List ℕ) → HasLanes 16 v (λ i. bit_xor (bit_xor (get_or a i 0) (up y i)) (down y i))
+    → HasLanes 16 v (λ i. bit_xor (get_or a i 0) (get_or y (row_below 2 i) 0))
 turned v a y made =
-    same_sixteen v made (λ i l.
+    same_lanes v made (λ i l.
     xor_assoc (get_or a i 0) (up y i) (down y i)
     ∙ ap (bit_xor (get_or a i 0)) (both_parts y i l (nat_lt (i % 4 + 2) 4) (nat_le 2 (i % 4)) refl refl))
 
@@ -340,21 +206,21 @@ paired a b c d k =
 -- lanes that are the sums of two pairs, picked after they were made, and of a key are the sums of the rows that InvMixColumns
 -- adds, and of the key
 pub mixed_rows : (v next own y z a b c d k : List ℕ)
-    → HasSixteen v (λ i. bit_xor (get_or next i 0) (bit_xor (get_or own i 0) (get_or k i 0)))
-    → HasSixteen next (λ i. get_or y (row_below 1 (unshifted_from i)) 0)
-    → HasSixteen own (λ i. get_or z (unshifted_from i) 0)
-    → HasSixteen y (λ i. bit_xor (get_or b i 0) (get_or d (row_below 2 i) 0))
-    → HasSixteen z (λ i. bit_xor (get_or a i 0) (get_or c (row_below 2 i) 0))
-    → HasSixteen v (λ i. bit_xor (mix_of (get_or a (unshifted_from i) 0) (get_or b (row_below 1 (unshifted_from i)) 0)
-    (get_or c (row_below 2 (unshifted_from i)) 0) (get_or d (row_below 3 (unshifted_from i)) 0)) (get_or k i 0))
+    → HasLanes 16 v (λ i. bit_xor (get_or next i 0) (bit_xor (get_or own i 0) (get_or k i 0)))
+    → HasLanes 16 next (λ i. get_or y (row_below 1 (row_target i)) 0)
+    → HasLanes 16 own (λ i. get_or z (row_target i) 0)
+    → HasLanes 16 y (λ i. bit_xor (get_or b i 0) (get_or d (row_below 2 i) 0))
+    → HasLanes 16 z (λ i. bit_xor (get_or a i 0) (get_or c (row_below 2 i) 0))
+    → HasLanes 16 v (λ i. bit_xor (mix_of (get_or a (row_target i) 0) (get_or b (row_below 1 (row_target i)) 0)
+    (get_or c (row_below 2 (row_target i)) 0) (get_or d (row_below 3 (row_target i)) 0)) (get_or k i 0))
 mixed_rows v next own y z a b c d k made hn ho hy hz =
-    same_sixteen v made (λ i l.
-    let small : unshifted_from i < 16 = omega arith in
-    let one : row_below 1 (unshifted_from i) < 16 = omega arith in
-    let three : row_below 2 (row_below 1 (unshifted_from i)) ≡ row_below 3 (unshifted_from i) = omega arith in
+    same_lanes v made (λ i l.
+    let small : row_target i < 16 = omega arith in
+    let one : row_below 1 (row_target i) < 16 = omega arith in
+    let three : row_below 2 (row_below 1 (row_target i)) ≡ row_below 3 (row_target i) = omega arith in
     ap₂ bit_xor
-    (hn.each i l ∙ hy.each (row_below 1 (unshifted_from i)) one
-    ∙ ap (λ (p : ℕ). bit_xor (get_or b (row_below 1 (unshifted_from i)) 0) (get_or d p 0)) three)
-    (ap (λ (z : ℕ). bit_xor z (get_or k i 0)) (ho.each i l ∙ hz.each (unshifted_from i) small))
-    ∙ paired (get_or a (unshifted_from i) 0) (get_or b (row_below 1 (unshifted_from i)) 0)
-    (get_or c (row_below 2 (unshifted_from i)) 0) (get_or d (row_below 3 (unshifted_from i)) 0) (get_or k i 0))
+    (hn.each i l ∙ hy.each (row_below 1 (row_target i)) one
+    ∙ ap (λ (p : ℕ). bit_xor (get_or b (row_below 1 (row_target i)) 0) (get_or d p 0)) three)
+    (ap (λ (z : ℕ). bit_xor z (get_or k i 0)) (ho.each i l ∙ hz.each (row_target i) small))
+    ∙ paired (get_or a (row_target i) 0) (get_or b (row_below 1 (row_target i)) 0)
+    (get_or c (row_below 2 (row_target i)) 0) (get_or d (row_below 3 (row_target i)) 0) (get_or k i 0))

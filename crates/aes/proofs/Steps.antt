@@ -13,7 +13,8 @@ use Rattle.octets.proofs.Residue.{length_residue}
 use Rattle.octets.proofs.BitFacts.{number_lt}
 use Rattle.aes.specs.declared.sbox.TheConstants.{SBOX}
 use Rattle.aes.specs.declared.inverse_lanes.TheConstants.{PLAIN_BY_FIRST, PLAIN_BY_SECOND}
-use Rattle.aes.specs.Code.InverseLanes.{by_inverse, u_at, t_at, matrix_undone, affine_undone}
+use Rattle.aes.specs.Code.Lanes.{by_inverse, u_at, t_at}
+use Rattle.aes.specs.Code.InverseLanes.{matrix_undone, affine_undone}
 use Rattle.aes.specs.Field.{modulus, times, sbox}
 use Rattle.octets.specs.Bytes.{IsBlock}
 use Rattle.aes.specs.Cipher.{at, grid, dot, matrix, column, mix_column, sub_bytes, shift_rows, mix_columns}

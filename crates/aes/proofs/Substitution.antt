@@ -1,9 +1,9 @@
 -- The steps of the S-box in lanes, each in terms of the lanes before it.
 use Rattle.std.proofs.Common.{ℕ, ◌/◌, ◌%◌, List, get_or, bit_xor}
 use Rattle.aes.specs.Code.Lanes.{HasLanes, entry}
+use Rattle.aes.specs.Code.Lanes.{scaled_at, both_at, first_at, second_at, u_at, t_at}
 use Rattle.aes.specs.declared.lanes.TheConstants.{INVERSE, SCALED}
-use Rattle.aes.proofs.FourBlocks.{via, via_two, scaled_at, both_at, first_at, second_at, u_at, t_at}
-use Rattle.aes.proofs.FourBlocks.{by_parts}
+use Rattle.aes.proofs.FourBlocks.{via, via_two}
 
 -- v is the XOR of two vectors
 abbrev pub IsSum : ℕ → List ℕ → List ℕ → List ℕ → Type 0
@@ -62,6 +62,7 @@ second_is {both = both} {scaled = scaled} {look = look} {second = second} nibble
 pub u_is : {n : ℕ} {x low high both scaled first look u : List ℕ} → HasNibbles n x low high both scaled
     → HasLanes n first (λ k. first_at (get_or x k 0)) → IsLook n look INVERSE first → IsSum n u look both
     → HasLanes n u (λ k. u_at (get_or x k 0))
+unfolding u_at
 u_is {both = both} {first = first} {look = look} {u = u} nibbles f l s =
     looked INVERSE u look first both l s f nibbles.both_is
 
@@ -69,12 +70,13 @@ u_is {both = both} {first = first} {look = look} {u = u} nibbles f l s =
 pub t_is : {n : ℕ} {x low high both scaled second look t : List ℕ} → HasNibbles n x low high both scaled
     → HasLanes n second (λ k. second_at (get_or x k 0)) → IsLook n look INVERSE second → IsSum n t look high
     → HasLanes n t (λ k. t_at (get_or x k 0))
+unfolding t_at
 t_is {high = high} {second = second} {look = look} {t = t} nibbles f l s =
     looked INVERSE t look second high l s f nibbles.high_is
 
--- the XOR of a table's entries at `u_at` and another's at `t_at` is `by_parts` of each lane
-pub parts_are : {n : ℕ} (x p q : List ℕ) {u t by_u by_t v : List ℕ} → HasLanes n u (λ k. u_at (get_or x k 0))
-    → HasLanes n t (λ k. t_at (get_or x k 0)) → IsLook n by_u p u → IsLook n by_t q t → IsSum n v by_u by_t
-    → HasLanes n v (λ k. by_parts p q (get_or x k 0))
-parts_are x p q {u = u} {t = t} {by_u = by_u} {by_t = by_t} {v = v} hu ht lu lt s =
-    looked p v by_u u by_t lu s hu (via (entry q) (λ k. t_at (get_or x k 0)) by_t t lt ht)
+-- the XOR of a table's entries at one vector and another's at a second is that of the entries at what the vectors hold
+pub both_looked : {n : ℕ} {g h : ℕ → ℕ} (p q : List ℕ) {u t v : List ℕ}
+    → HasLanes n v (λ k. bit_xor (entry p (get_or u k 0)) (entry q (get_or t k 0))) → HasLanes n u g → HasLanes n t h
+    → HasLanes n v (λ k. bit_xor (entry p (g k)) (entry q (h k)))
+both_looked {g = g} {h = h} p q {u = u} {t = t} {v = v} made hu ht =
+    via_two (λ a b. bit_xor (entry p a) (entry q b)) g h v u t made hu ht

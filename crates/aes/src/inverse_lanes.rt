@@ -2,29 +2,18 @@
 //! tables are vectors: none is read from memory by a byte of the state or of a key.
 //!
 //! A state is kept as the inverse S-box takes it: after InvShiftRows, each byte with the affine map of the S-box undone, and in a
-//! basis in which the field of 256 elements is an extension of its subfield of 16. There an inverse takes five look-ups, in which
-//! 0x80 stands for the inverse of 0. The round keys that are added to it have the same form.
+//! basis of `lanes`. The round keys that are added to it have the same form.
 
-ghost use Rattle.std.specs.Prelude.{◌≡◌, ℕ, ◌+◌, ◌-◌, ◌/◌, ◌%◌, ◌<◌, ◌≤◌, List, length, slice_index, bit_xor};
-ghost use Rattle.std.specs.Prelude.{nat_lt, nat_le, if◌then◌else◌};
+ghost use Rattle.std.specs.Prelude.{◌≡◌, ℕ, ◌+◌, ◌-◌, ◌%◌, List, slice_index, bit_xor, nat_lt, nat_le, if◌then◌else◌};
 ghost use Rattle.octets.specs.Bytes.{IsBlock};
 ghost use Rattle.aes.specs.Cipher.{sub_bytes, shift_rows, add_round_key};
 ghost use Rattle.aes.specs.Code.InverseSteps.{round_key, inverse_mix_columns};
-ghost use Rattle.aes.specs.Code.InverseLanes.{HasSixteen, IsShortPlace, find, row_below, unshifted_from, mix_of};
-ghost use Rattle.aes.specs.Code.InverseLanes.{u_at, t_at, affine_undone, HoldsUndone};
+ghost use Rattle.aes.specs.Code.Lanes.{HasLanes, row_target};
+ghost use Rattle.aes.specs.Code.InverseLanes.{row_below, mix_of, affine_undone, HoldsUndone};
 
+use crate::lanes::{Lanes, inverse, look_up_both, nibbles};
 use std::simd::prelude::*;
 use std::simd::{u8x16, u32x4};
-
-// The inverses in the subfield.
-const INVERSE: [u8; 16] = [
-    0x80, 0x01, 0x08, 0x0d, 0x0f, 0x06, 0x05, 0x0e, 0x02, 0x0c, 0x0b, 0x0a, 0x09, 0x03, 0x07, 0x04,
-];
-
-// The inverses in the subfield times a constant.
-const SCALED: [u8; 16] = [
-    0x80, 0x0c, 0x0d, 0x0b, 0x05, 0x04, 0x06, 0x09, 0x0e, 0x07, 0x0f, 0x03, 0x01, 0x02, 0x08, 0x0a,
-];
 
 // The bytes below 16 with the matrix of the affine map undone, in the basis.
 const UNDONE_LOW: [u8; 16] = [
@@ -126,102 +115,10 @@ const NINE_HIGH: [u8; 16] = [
     0x00, 0x2f, 0x23, 0x0c, 0xbc, 0x93, 0x9f, 0xb0, 0x3c, 0x13, 0x1f, 0x30, 0x80, 0xaf, 0xa3, 0x8c,
 ];
 
-// Indices into a table of sixteen bytes: each is below 16, or from 128 to 143, where 0 is read.
-#[derive(Drop, Clone, Copy)]
-struct Places {
-    lanes: u8x16,
-    ghost long: { length lanes ≡ 16 },
-    ghost each: { (k : ℕ) → k < 16 → IsShortPlace (slice_index lanes k) },
-}
-
-// The low nibble of each lane.
-#[inline(always)]
-fn low_nibbles(x: u8x16) -> Places
-    ensures { HasSixteen result.lanes (λ k. slice_index x k % 16) }
-{
-    Places {
-        lanes: x & u8x16::splat(15),
-    }
-}
-
-// The high nibble of each lane.
-#[inline(always)]
-fn high_nibbles(x: u8x16) -> Places
-    ensures { HasSixteen result.lanes (λ k. slice_index x k / 16) }
-{
-    Places {
-        lanes: x >> u8x16::splat(4),
-    }
-}
-
-// Adds the places.
-#[inline(always)]
-fn add_places(x: Places, y: Places) -> Places
-    ensures { HasSixteen result.lanes (λ k. bit_xor (slice_index x.lanes k) (slice_index y.lanes k)) }
-{
-    Places {
-        lanes: x.lanes ^ y.lanes,
-    }
-}
-
-// Adds the lanes.
-#[inline(always)]
-fn sum(x: u8x16, y: u8x16) -> u8x16
-    ensures { HasSixteen result (λ k. bit_xor (slice_index x k) (slice_index y k)) }
-{
-    x ^ y
-}
-
-// Looks each place up in the table.
-#[inline(always)]
-fn look_up(table: [u8; 16], at: Places) -> u8x16
-    ensures { HasSixteen result (λ k. find table (slice_index at.lanes k)) }
-{
-    u8x16::from_array(table).swizzle_dyn_within::<16>(at.lanes)
-}
-
-// Looks each place up in a table of places.
-#[inline(always)]
-fn look_up_places(table: [u8; 16], at: Places) -> Places
-    requires { (k : ℕ) → k < 16 → IsShortPlace (slice_index table k) }
-    ensures { HasSixteen result.lanes (λ k. find table (slice_index at.lanes k)) }
-{
-    Places {
-        lanes: look_up(table, at),
-    }
-}
-
-// The two nibbles of the inverse of each byte, which is in the basis.
-#[inline(always)]
-fn inverse(x: u8x16) -> (Places, Places)
-    ensures { HasSixteen result.0.lanes (λ k. u_at (slice_index x k))
-        × HasSixteen result.1.lanes (λ k. t_at (slice_index x k)) }
-{
-    let low = low_nibbles(x);
-    let high = high_nibbles(x);
-    let both = add_places(low, high);
-    let scaled = look_up_places(SCALED, low);
-    let first = add_places(look_up_places(INVERSE, high), scaled);
-    let second = add_places(look_up_places(INVERSE, both), scaled);
-    (
-        add_places(look_up_places(INVERSE, first), both),
-        add_places(look_up_places(INVERSE, second), high),
-    )
-}
-
-// The sum of the entries of two tables.
-#[inline(always)]
-fn look_up_both(first: [u8; 16], second: [u8; 16], u: Places, t: Places) -> u8x16
-    ensures { HasSixteen result
-        (λ k. bit_xor (find first (slice_index u.lanes k)) (find second (slice_index t.lanes k))) }
-{
-    sum(look_up(first, u), look_up(second, t))
-}
-
 // Undoes ShiftRows (FIPS 197, 5.3.1).
 #[inline(always)]
-fn unshift_rows(x: u8x16) -> u8x16
-    ensures { HasSixteen result (λ i. slice_index x (unshifted_from i)) }
+pub(crate) fn unshift_rows(x: u8x16) -> u8x16
+    ensures { HasLanes 16 result (λ i. slice_index x (row_target i)) }
 {
     x.swizzle([0, 13, 10, 7, 4, 1, 14, 11, 8, 5, 2, 15, 12, 9, 6, 3])
 }
@@ -229,7 +126,7 @@ fn unshift_rows(x: u8x16) -> u8x16
 // Undoes ShiftRows in columns that are moved up by one row; row 0 becomes row 3.
 #[inline(always)]
 fn unshift_next_rows(x: u8x16) -> u8x16
-    ensures { HasSixteen result (λ i. slice_index x (row_below 1 (unshifted_from i))) }
+    ensures { HasLanes 16 result (λ i. slice_index x (row_below 1 (row_target i))) }
 {
     x.swizzle([1, 14, 11, 4, 5, 2, 15, 8, 9, 6, 3, 12, 13, 10, 7, 0])
 }
@@ -237,7 +134,7 @@ fn unshift_next_rows(x: u8x16) -> u8x16
 // Moves each column up by two rows, and fills the last two with zeros.
 #[inline(always)]
 fn two_rows_up(x: u8x16) -> u8x16
-    ensures { HasSixteen result (λ i. if nat_lt (i % 4 + 2) 4 then slice_index x (i + 2) else 0) }
+    ensures { HasLanes 16 result (λ i. if nat_lt (i % 4 + 2) 4 then slice_index x (i + 2) else 0) }
 {
     (u32x4::from_le_bytes(x) >> u32x4::splat(16)).to_le_bytes()
 }
@@ -245,7 +142,7 @@ fn two_rows_up(x: u8x16) -> u8x16
 // Moves each column down by two rows, and fills the first two with zeros.
 #[inline(always)]
 fn two_rows_down(x: u8x16) -> u8x16
-    ensures { HasSixteen result (λ i. if nat_le 2 (i % 4) then slice_index x (i - 2) else 0) }
+    ensures { HasLanes 16 result (λ i. if nat_le 2 (i % 4) then slice_index x (i - 2) else 0) }
 {
     (u32x4::from_le_bytes(x) << u32x4::splat(16)).to_le_bytes()
 }
@@ -254,22 +151,22 @@ fn two_rows_down(x: u8x16) -> u8x16
 // of the two look-ups that `far` is the sum of, and some processors have only one port for shuffles.
 #[inline(always)]
 fn add_two_below(near: u8x16, far: u8x16) -> u8x16
-    ensures { HasSixteen result (λ i. bit_xor (slice_index near i) (slice_index far (row_below 2 i))) }
+    ensures { HasLanes 16 result (λ i. bit_xor (slice_index near i) (slice_index far (row_below 2 i))) }
 {
-    sum(sum(near, two_rows_up(far)), two_rows_down(far))
+    near.sum(two_rows_up(far)).sum(two_rows_down(far))
 }
 
 // The sum of the multiples of the rows that InvMixColumns adds (FIPS 197, 5.3.3), after InvShiftRows of the next round, and of a
 // round key. The multiples come in the order in which they are wanted: those that are moved first.
 #[inline(always)]
 fn mix(by9: u8x16, by13: u8x16, by11: u8x16, by14: u8x16, key: u8x16) -> u8x16
-    ensures { HasSixteen result (λ i. bit_xor (mix_of (slice_index by14 (unshifted_from i))
-        (slice_index by11 (row_below 1 (unshifted_from i))) (slice_index by13 (row_below 2 (unshifted_from i)))
-        (slice_index by9 (row_below 3 (unshifted_from i)))) (slice_index key i)) }
+    ensures { HasLanes 16 result (λ i. bit_xor (mix_of (slice_index by14 (row_target i))
+        (slice_index by11 (row_below 1 (row_target i))) (slice_index by13 (row_below 2 (row_target i)))
+        (slice_index by9 (row_below 3 (row_target i)))) (slice_index key i)) }
 {
     let next = unshift_next_rows(add_two_below(by11, by9));
     let own = unshift_rows(add_two_below(by14, by13));
-    sum(next, sum(own, key))
+    next.sum(own.sum(key))
 }
 
 // InvMixColumns of a round key, in the form in which the state is kept.
@@ -277,8 +174,7 @@ fn mix(by9: u8x16, by13: u8x16, by11: u8x16, by14: u8x16, key: u8x16) -> u8x16
 pub(crate) fn middle_key(x: u8x16) -> [u8; 16]
     ensures { HoldsUndone result (inverse_mix_columns x) }
 {
-    let low = low_nibbles(x);
-    let high = high_nibbles(x);
+    let (low, high) = nibbles(x);
     mix(
         look_up_both(NINE_LOW, NINE_HIGH, low, high),
         look_up_both(THIRTEEN_LOW, THIRTEEN_HIGH, low, high),
@@ -292,12 +188,10 @@ pub(crate) fn middle_key(x: u8x16) -> [u8; 16]
 // Undoes the affine map of the S-box at each byte, and changes the byte into the basis.
 #[inline(always)]
 fn undo_affine(x: u8x16) -> u8x16
-    ensures { HasSixteen result (λ k. affine_undone (slice_index x k)) }
+    ensures { HasLanes 16 result (λ k. affine_undone (slice_index x k)) }
 {
-    sum(
-        look_up_both(UNDONE_LOW, UNDONE_HIGH, low_nibbles(x), high_nibbles(x)),
-        u8x16::splat(0x12),
-    )
+    let (low, high) = nibbles(x);
+    look_up_both(UNDONE_LOW, UNDONE_HIGH, low, high).sum(u8x16::splat(0x12))
 }
 
 // AddRoundKey with the last round key, in the form in which the state is kept.
@@ -306,7 +200,7 @@ pub(crate) fn begin(block: &[u8; 16], key: [u8; 16]) -> u8x16
     ensures { (ws : List (List ℕ)) (n : ℕ) → key ≡ round_key ws n
         → HoldsUndone result (add_round_key ws n block.now) }
 {
-    undo_affine(unshift_rows(sum(u8x16::from_array(*block), u8x16::from_array(key))))
+    undo_affine(unshift_rows(u8x16::from_array(*block).sum(u8x16::from_array(key))))
 }
 
 // A round of the equivalent inverse cipher, with a round key of `middle_key`.
@@ -333,9 +227,7 @@ pub(crate) fn end(x: u8x16, key: [u8; 16]) -> [u8; 16]
         → key ≡ round_key ws n → result ≡ add_round_key ws n s }
 {
     let (u, t) = inverse(x);
-    sum(
-        look_up_both(PLAIN_BY_FIRST, PLAIN_BY_SECOND, u, t),
-        u8x16::from_array(key),
-    )
-    .to_array()
+    look_up_both(PLAIN_BY_FIRST, PLAIN_BY_SECOND, u, t)
+        .sum(u8x16::from_array(key))
+        .to_array()
 }

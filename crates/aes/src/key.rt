@@ -6,7 +6,7 @@ ghost use Rattle.octets.specs.Bytes.{IsBlock, block_at};
 ghost use Rattle.aes.specs.Cipher.{cipher, IsKey, IsKeyLength, IsPreimage};
 ghost use Rattle.aes.specs.Code.ExpandedKey.{own_key};
 ghost use Rattle.aes.specs.Code.InverseKey.{HasRoundKeys, IsInverse};
-ghost use Rattle.aes.specs.Code.Lanes.{HoldsBlocks, row_target};
+ghost use Rattle.aes.specs.Code.Lanes.{HoldsBlocks};
 ghost use Rattle.aes.specs.Code.Columns.{column_of, columns_of};
 ghost use Rattle.aes.specs.Code.Planes.{AreReady, HoldsBits, HoldsEight, HoldsLanes, HoldsSixteen, word_byte};
 ghost use Rattle.aes.specs.Code.ReadyKeys.{KeepsReadyKeys};
@@ -14,6 +14,7 @@ ghost use Rattle.aes.specs.Schedule.{schedule, round_count};
 
 use crate::columns::{add_key, last_round, load, round, store};
 use crate::inverse_key::InverseKey;
+use crate::inverse_lanes::unshift_rows;
 use crate::key_planes::{KeyPlanes, ready_planes, unpack};
 use crate::lanes::{self, Lanes, from_basis};
 use crate::planes::{self, BitPlanes, HalfPlanes, Planes, both_halves, lower, upper};
@@ -82,14 +83,6 @@ impl KeptKey for &AesKey {
     fn kept(&self) -> &AesKey {
         *self
     }
-}
-
-// Moves the rows of a block back to where they were before ShiftRows.
-#[inline(always)]
-fn unshift_rows(x: u8x16) -> u8x16
-    ensures { (i : ℕ) → i < 16 → slice_index result i ≡ slice_index x (row_target i) }
-{
-    x.swizzle([0, 13, 10, 7, 4, 1, 14, 11, 8, 5, 2, 15, 12, 9, 6, 3])
 }
 
 impl AesKey {

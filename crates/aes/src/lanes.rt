@@ -9,7 +9,7 @@ ghost use Rattle.octets.specs.Bytes.{IsBlock};
 ghost use Rattle.aes.specs.Field.{times};
 ghost use Rattle.aes.specs.Cipher.{sub_bytes, shift_rows, mix_columns, add_round_key};
 ghost use Rattle.aes.specs.Code.Lanes.{HasLanes, IsPlace, entry, row_source, row_below, row_above, AreBytes};
-ghost use Rattle.aes.specs.Code.Lanes.{in_basis, linear_sbox, HoldsBlocks, HoldsShifted};
+ghost use Rattle.aes.specs.Code.Lanes.{in_basis, linear_sbox, u_at, t_at, HoldsBlocks, HoldsShifted};
 ghost use Rattle.aes.specs.Code.Planes.{word_byte, masked_byte};
 ghost use Rattle.aes.specs.Code.ReadyKeys.{ready_byte};
 
@@ -358,14 +358,53 @@ impl Lanes for u8x64 {
     }
 }
 
+// The two nibbles of each lane.
+#[inline(always)]
+pub(crate) fn nibbles<V: Lanes>(x: V) -> (V, V)
+    ensures nibbles { HasLanes V.count (V.lanes result.0) (λ k. slice_index (V.lanes x) k % 16)
+        × HasLanes V.count (V.lanes result.1) (λ k. slice_index (V.lanes x) k / 16) }
+    ensures places { (k : ℕ) → k < V.count → IsPlace (slice_index (V.lanes result.0) k)
+        × IsPlace (slice_index (V.lanes result.1) k) }
+    ensures bytes { (k : ℕ) → slice_index (V.lanes x) k < 256 }
+{
+    (x.low_nibbles(), x.high_nibbles())
+}
+
+// The sum of the entries of two tables.
+#[inline(always)]
+pub(crate) fn look_up_both<V: Lanes>(first: [u8; 16], second: [u8; 16], u: V, t: V) -> V
+    requires { (k : ℕ) → k < V.count → IsPlace (slice_index (V.lanes u) k) × IsPlace (slice_index (V.lanes t) k) }
+    ensures { HasLanes V.count (V.lanes result)
+        (λ k. bit_xor (entry first (slice_index (V.lanes u) k)) (entry second (slice_index (V.lanes t) k))) }
+{
+    V::look_up(first, u).sum(V::look_up(second, t))
+}
+
+// The two nibbles of the inverse of each lane, which is in the basis.
+#[inline(always)]
+pub(crate) fn inverse<V: Lanes>(x: V) -> (V, V)
+    ensures nibbles { HasLanes V.count (V.lanes result.0) (λ k. u_at (slice_index (V.lanes x) k))
+        × HasLanes V.count (V.lanes result.1) (λ k. t_at (slice_index (V.lanes x) k)) }
+    ensures places { (k : ℕ) → k < V.count → IsPlace (slice_index (V.lanes result.0) k)
+        × IsPlace (slice_index (V.lanes result.1) k) }
+{
+    let (low, high) = nibbles(x);
+    let both = low.sum(high);
+    let scaled = V::look_up(SCALED, low);
+    let first = V::look_up(INVERSE, high).sum(scaled);
+    let second = V::look_up(INVERSE, both).sum(scaled);
+    let u = V::look_up(INVERSE, first).sum(both);
+    let t = V::look_up(INVERSE, second).sum(high);
+    (u, t)
+}
+
 // Changes each lane into the basis.
 #[inline(always)]
 pub(crate) fn to_basis<V: Lanes>(x: V) -> V
     ensures { HasLanes V.count (V.lanes result) (λ k. in_basis (slice_index (V.lanes x) k)) }
 {
-    let low = x.low_nibbles();
-    let high = x.high_nibbles();
-    V::look_up(TO_LOW, low).sum(V::look_up(TO_HIGH, high))
+    let (low, high) = nibbles(x);
+    look_up_both(TO_LOW, TO_HIGH, low, high)
 }
 
 // Changes each lane back from the basis.
@@ -374,9 +413,8 @@ pub(crate) fn from_basis<V: Lanes>(x: V) -> V
     ensures { (s : ℕ → ℕ) → ((k : ℕ) → k < V.count → s k < 256) → HasLanes V.count (V.lanes x) (λ k. in_basis (s k))
         → HasLanes V.count (V.lanes result) s }
 {
-    let low = x.low_nibbles();
-    let high = x.high_nibbles();
-    V::look_up(FROM_LOW, low).sum(V::look_up(FROM_HIGH, high))
+    let (low, high) = nibbles(x);
+    look_up_both(FROM_LOW, FROM_HIGH, low, high)
 }
 
 // Applies the S-box without its constant to bytes in the basis. Returns the values, the values in the basis, and their doubles
@@ -388,18 +426,11 @@ pub(crate) fn substitute<V: Lanes>(x: V) -> (V, V, V)
         × HasLanes V.count (V.lanes result.1) (λ k. in_basis (linear_sbox (s k)))
         × HasLanes V.count (V.lanes result.2) (λ k. in_basis (times 2 (linear_sbox (s k)))) }
 {
-    let low = x.low_nibbles();
-    let high = x.high_nibbles();
-    let both = low.sum(high);
-    let scaled = V::look_up(SCALED, low);
-    let first = V::look_up(INVERSE, high).sum(scaled);
-    let second = V::look_up(INVERSE, both).sum(scaled);
-    let u = V::look_up(INVERSE, first).sum(both);
-    let t = V::look_up(INVERSE, second).sum(high);
+    let (u, t) = inverse(x);
     (
-        V::look_up(PLAIN_BY_FIRST, u).sum(V::look_up(PLAIN_BY_SECOND, t)),
-        V::look_up(ONCE_BY_FIRST, u).sum(V::look_up(ONCE_BY_SECOND, t)),
-        V::look_up(TWICE_BY_FIRST, u).sum(V::look_up(TWICE_BY_SECOND, t)),
+        look_up_both(PLAIN_BY_FIRST, PLAIN_BY_SECOND, u, t),
+        look_up_both(ONCE_BY_FIRST, ONCE_BY_SECOND, u, t),
+        look_up_both(TWICE_BY_FIRST, TWICE_BY_SECOND, u, t),
     )
 }
 

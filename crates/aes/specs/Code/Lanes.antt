@@ -2,7 +2,7 @@
 use Rattle.std.specs.Prelude.{◌≡◌, ℕ, ◌+◌, ◌*◌, ◌/◌, ◌%◌, ◌<◌, true, ◌||◌, nat_le, nat_lt, List, []}
 use Rattle.std.specs.Prelude.{length, slice_index, slice_index_or, if◌then◌else◌, bit_xor}
 use Rattle.aes.specs.Field.{sbox}
-use Rattle.aes.specs.declared.lanes.TheConstants.{TO_LOW, TO_HIGH, FROM_LOW, FROM_HIGH}
+use Rattle.aes.specs.declared.lanes.TheConstants.{TO_LOW, TO_HIGH, FROM_LOW, FROM_HIGH, INVERSE, SCALED}
 
 -- v has n lanes, and lane k holds f k
 pub record HasLanes (n : ℕ) (v : List ℕ) (f : ℕ → ℕ) : Type 0 where
@@ -49,6 +49,36 @@ in_basis x = bit_xor (slice_index TO_LOW (x % 16)) (slice_index TO_HIGH (x / 16)
 unfoldable pub from_basis : ℕ → ℕ
 from_basis y = bit_xor (slice_index FROM_LOW (y % 16)) (slice_index FROM_HIGH (y / 16))
 
+-- ---- an inverse, from the nibbles of a byte in the basis
+-- the scaled inverse of the low nibble
+abbrev pub scaled_at : ℕ → ℕ
+scaled_at y = entry SCALED (y % 16)
+
+-- the sum of the nibbles
+abbrev pub both_at : ℕ → ℕ
+both_at y = bit_xor (y % 16) (y / 16)
+
+-- the inverse of the high nibble plus the scaled inverse of the low one, which the first nibble inverts
+abbrev pub first_at : ℕ → ℕ
+first_at y = bit_xor (entry INVERSE (y / 16)) (scaled_at y)
+
+-- the inverse of the sum of the nibbles plus the scaled inverse of the low one, which the second nibble inverts
+abbrev pub second_at : ℕ → ℕ
+second_at y = bit_xor (entry INVERSE (both_at y)) (scaled_at y)
+
+-- the first nibble of the inverse
+unfoldable pub u_at : ℕ → ℕ
+u_at y = bit_xor (entry INVERSE (first_at y)) (both_at y)
+
+-- the second nibble of the inverse
+unfoldable pub t_at : ℕ → ℕ
+t_at y = bit_xor (entry INVERSE (second_at y)) (y / 16)
+
+-- the XOR of two tables' entries at the nibbles of the inverse
+abbrev pub by_inverse : List ℕ → List ℕ → ℕ → ℕ
+by_inverse p q y = bit_xor (entry p (u_at y)) (entry q (t_at y))
+
+-- ---- the S-box, and blocks
 -- the S-box without its constant
 unfoldable pub linear_sbox : ℕ → ℕ
 linear_sbox x = bit_xor (sbox x) 0x63

@@ -7,14 +7,26 @@ use Rattle.aes.proofs.InverseBytes.{state_lanes, back_lanes, mixed_lanes, round_
 use Rattle.aes.proofs.InverseBytes.{thirteen_state, nine_state}
 use Rattle.aes.proofs.inverse_lanes.inverse_round.Goals as goal
 
+pub look_up_both-requires : goal.look_up_both-requires
+look_up_both-requires c = c.inverse.ensures.places
+
+pub look_up_both-requires-2 : goal.look_up_both-requires-2
+look_up_both-requires-2 c = c.inverse.ensures.places
+
+pub look_up_both-requires-3 : goal.look_up_both-requires-3
+look_up_both-requires-3 c = c.inverse.ensures.places
+
+pub look_up_both-requires-4 : goal.look_up_both-requires-4
+look_up_both-requires-4 c = c.inverse.ensures.places
+
 pub returns : goal.returns
 returns c = λ s ws n block e key.
-    let u = c.inverse.result.0.lanes in
-    let t = c.inverse.result.1.lanes in
+    let u = c.inverse.result.0 in
+    let t = c.inverse.result.1 in
     let b : ℕ → ℕ = λ k. get_or s k 0 in
     let held = back_lanes c.args.x s e in
-    let hu = c.inverse.ensures.0 in
-    let ht = c.inverse.ensures.1 in
+    let hu = c.inverse.ensures.nibbles.0 in
+    let ht = c.inverse.ensures.nibbles.1 in
     round_is c.mix.result c.args.key s ws n key
     (mixed_lanes c.mix.result c.look_up_both-4.result c.look_up_both-3.result c.look_up_both-2.result c.look_up_both.result
     c.args.key b (λ i. get_or c.args.key i 0) c.mix.ensures

@@ -1,24 +1,14 @@
-use Rattle.std.proofs.Common.{◌/◌, ◌%◌, get_or, bit_xor}
-use Rattle.aes.specs.Code.Lanes.{entry}
+use Rattle.std.proofs.Common.{get_or}
 use Rattle.aes.specs.declared.lanes.TheConstants.{TO_LOW, TO_HIGH}
-use Rattle.aes.proofs.FourBlocks.{via, via_two, basis_entries, same_lanes, shown, low_place, high_place}
+use Rattle.aes.proofs.FourBlocks.{basis_entries, same_lanes}
+use Rattle.aes.proofs.Substitution.{both_looked}
 use Rattle.aes.proofs.lanes.to_basis.Goals as goal
 
-pub look_up-requires : goal.look_up-requires
-look_up-requires g c =
-    shown (λ y. y % 16) _ (g.V.Lanes.lanes c.args.x) c.low_nibbles-low.ensures.bytes c.low_nibbles-low.ensures.nibbles
-    low_place
-
-pub look_up-requires-2 : goal.look_up-requires-2
-look_up-requires-2 g c =
-    shown (λ y. y / 16) _ (g.V.Lanes.lanes c.args.x) c.low_nibbles-low.ensures.bytes c.high_nibbles-high.ensures high_place
+pub look_up_both-requires : goal.look_up_both-requires
+look_up_both-requires g c = c.nibbles-low.ensures.places
 
 pub returns : goal.returns
 returns g c =
-    let x = g.V.Lanes.lanes c.args.x in
-    let low = via (entry TO_LOW) (λ k. get_or x k 0 % 16) _ _ c.look_up.ensures c.low_nibbles-low.ensures.nibbles in
-    let high = via (entry TO_HIGH) (λ k. get_or x k 0 / 16) _ _ c.look_up-2.ensures c.high_nibbles-high.ensures in
     same_lanes _
-    (via_two bit_xor (λ k. entry TO_LOW (get_or x k 0 % 16)) (λ k. entry TO_HIGH (get_or x k 0 / 16)) _ _ _
-    c.sum.ensures low high)
-    (λ k l. basis_entries (get_or x k 0) (c.low_nibbles-low.ensures.bytes k))
+    (both_looked TO_LOW TO_HIGH c.look_up_both.ensures c.nibbles-low.ensures.nibbles.0 c.nibbles-low.ensures.nibbles.1)
+    (λ k l. basis_entries (get_or (g.V.Lanes.lanes c.args.x) k 0) (c.nibbles-low.ensures.bytes k))

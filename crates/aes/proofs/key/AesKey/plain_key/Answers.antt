@@ -37,4 +37,4 @@ returns c = λ within i l.
     let bytes = words_are key (4 * (round_count key + 1)) k.bytes in
     (c.from_basis.ensures (λ i. word_byte (schedule key) n i) (λ i h. bytes (4 * n + i / 4) (i % 4))
     (unshifted _ _ _ (schedule key) n (search rules) c.sum-2.ensures.each (λ i h. kept.middle n i (omega arith) (omega arith) h)
-    c.unshift_rows.ensures)).each i l
+    c.unshift_rows.ensures.each)).each i l
