@@ -11,7 +11,7 @@ use lib.Lanes.{zip2}
 use Rattle.aes.specs.Code.Planes.{HoldsLanes}
 use Rattle.aes.specs.Code.Lanes.{linear_sbox}
 use Rattle.aes.proofs.Tables.{sbox_at}
-use Rattle.aes.specs.declared.sbox.TheConstants.{SBOX}
+use Rattle.aes.proofs.Tables.{sbox_table}
 use Rattle.aes.proofs.Tested.{all_below, all_below_at, eight_cases}
 
 -- a gate: whether it is a product or a sum, and how far back in the list of values its two operands stand
@@ -74,7 +74,7 @@ same_list (x ∷ xs) [] = false
 same_list (x ∷ xs) (y ∷ ys) = (x == y) && same_list xs ys
 
 -- the circuit computes the S-box without its constant, tested at each byte
-computed : all_below (λ x. same_list (outcome min plus2 0 (bits8 x)) (bits8 (bit_xor (get_or SBOX x 0) 0x63))) 256 ≡ true
+computed : all_below (λ x. same_list (outcome min plus2 0 (bits8 x)) (bits8 (bit_xor (get_or sbox_table x 0) 0x63))) 256 ≡ true
 computed = refl
 
 -- two lists that are tested equal have equal items
@@ -227,9 +227,9 @@ substituted n p g small h = record {
       (run_bits n l k hl gates (eight p) (eight_long n p h.long)
       ∙ ap (run min plus2 0 gates) (eight_bits n p g l k h hl hk))
       ∙ sym (get_or-map (λ i. get_or (run min plus2 0 gates (bits8 (g l k))) i 0) places j 0 0 (omega arith))
-      ∙ same_at (outcome min plus2 0 (bits8 (g l k))) (bits8 (bit_xor (get_or SBOX (g l k) 0) 0x63)) j
-      (all_below_at (λ x. same_list (outcome min plus2 0 (bits8 x)) (bits8 (bit_xor (get_or SBOX x 0) 0x63))) 256
+      ∙ same_at (outcome min plus2 0 (bits8 (g l k))) (bits8 (bit_xor (get_or sbox_table (g l k) 0) 0x63)) j
+      (all_below_at (λ x. same_list (outcome min plus2 0 (bits8 x)) (bits8 (bit_xor (get_or sbox_table x 0) 0x63))) 256
       (g l k) computed (small l k))
-      ∙ bits_at (bit_xor (get_or SBOX (g l k) 0) 0x63) j hj
+      ∙ bits_at (bit_xor (get_or sbox_table (g l k) 0) 0x63) j hj
       ∙ ap (λ n. bit_at (bit_xor n 0x63) j) (sbox_at (g l k) (small l k));
 }

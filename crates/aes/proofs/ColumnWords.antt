@@ -1,6 +1,6 @@
 -- Columns as words: their sums, rotations and bytes.
 use Rattle.std.proofs.Common.{◌≡◌, ℕ, ◌+◌, ◌*◌, ◌/◌, ◌%◌, ◌^◌, ◌<◌, ◌≤◌, true, ◌==◌, ◌&&◌, ltb, ltb-true}
-use Rattle.std.proofs.Common.{List, [], ◌∷◌, ◌++◌, map, get_or, length, zero, suc, refl, sym, ap, ap₂, ◌∙◌}
+use Rattle.std.proofs.Common.{List, [], ◌∷◌, ◌++◌, get_or, length, zero, suc, refl, sym, ap, ap₂, ◌∙◌}
 use Rattle.std.proofs.Common.{arith, bit_or, bit_xor, w32}
 use Rattle.std.specs.Int.{bytes_low_first, rotate_left, from_le_bytes}
 use Rattle.std.proofs.lemmas.Nat.{xor_shr, xor_mod, or_shifted}
@@ -10,7 +10,7 @@ use Rattle.aes.specs.Field.{times, sbox}
 use Rattle.aes.specs.Schedule.{xor_word}
 use Rattle.aes.specs.Cipher.{sub_bytes, shift_rows, mix_column, mix_columns, add_round_key}
 use Rattle.aes.specs.Code.Columns.{column_of, columns_of, state_of}
-use Rattle.aes.specs.declared.sbox.TheConstants.{SBOX}
+use Rattle.aes.proofs.Tables.{sbox_table}
 use Rattle.aes.specs.declared.round_tables.TheConstants.{TABLE, TABLE_ROW1, TABLE_ROW2, TABLE_ROW3}
 use Rattle.aes.proofs.Tested.{all_below, all_below_at}
 use Rattle.aes.proofs.Multiples.{single_is, double, double_is, triple, triple_by}
@@ -99,7 +99,7 @@ abbrev mixed_entry : ℕ → ℕ
 mixed_entry s = from_le_bytes w32 (double s ∷ s ∷ s ∷ triple s ∷ [])
 
 -- each entry of the table is the word of its S-box value, tested at each entry
-table_computed : all_below (λ x. get_or TABLE x 0 == mixed_entry (get_or SBOX x 0)) 256 ≡ true
+table_computed : all_below (λ x. get_or TABLE x 0 == mixed_entry (get_or sbox_table x 0)) 256 ≡ true
 table_computed = refl
 
 -- an entry of the table has the column 2s, s, s, 3s of the S-box value s
@@ -109,8 +109,8 @@ table_at x h =
     let s : ℕ = sbox x in
     let small : s < 256 = sbox_small x h in
     column_back (times 2 s) s s (times 3 s) (get_or TABLE x 0) (times_small 2 s) small small (times_small 3 s)
-    (eqb-true (get_or TABLE x 0) (mixed_entry (get_or SBOX x 0))
-    (all_below_at (λ x. get_or TABLE x 0 == mixed_entry (get_or SBOX x 0)) 256 x table_computed h)
+    (eqb-true (get_or TABLE x 0) (mixed_entry (get_or sbox_table x 0))
+    (all_below_at (λ x. get_or TABLE x 0 == mixed_entry (get_or sbox_table x 0)) 256 x table_computed h)
     ∙ ap mixed_entry (sbox_at x h)
     ∙ ap (from_le_bytes w32) (four (sym (double_is s small)) refl refl (sym (triple_by s small))))
 
@@ -261,13 +261,6 @@ key_columns ws n (suc zero) h l = sym (get_or-map column_of ws (4 * n + 1) 0 [] 
 key_columns ws n (suc (suc zero)) h l = sym (get_or-map column_of ws (4 * n + 2) 0 [] (omega arith))
 key_columns ws n (suc (suc (suc zero))) h l = sym (get_or-map column_of ws (4 * n + 3) 0 [] (omega arith))
 key_columns ws n (suc (suc (suc (suc c)))) h l = absurd (omega arith)
-
--- the S-box values of the four rows of a column are the S-box at each byte of the column
-pub sub_column : (w : ℕ)
-    → sbox (get_or (column_of w) 0 0) ∷ sbox (get_or (column_of w) 1 0) ∷ sbox (get_or (column_of w) 2 0)
-    ∷ sbox (get_or (column_of w) 3 0) ∷ [] ≡ map sbox (column_of w)
-unfolding column_of
-sub_column w = refl
 
 -- the state of four words has sixteen bytes
 pub state_long : (ws : List ℕ) → length ws ≡ 4 → length (state_of ws) ≡ 16

@@ -8,7 +8,7 @@ use Rattle.aes.specs.Schedule.{xor_word, sub_word, rot_word, rcon, key_words, ro
 use Rattle.aes.specs.Schedule.{next_word, words, schedule}
 use Rattle.aes.specs.Cipher.{at, grid, sub_bytes, shift_rows, mix_column, mix_columns, add_round_key, rounds}
 use Rattle.aes.specs.Cipher.{cipher, IsKey}
-use Rattle.aes.specs.declared.sbox.TheConstants.{SBOX}
+use Rattle.aes.proofs.Tables.{sbox_table}
 use Rattle.aes.proofs.Tables.{sbox_at}
 use Rattle.aes.proofs.Multiples.{single_is, double, double_is, triple, triple_by}
 use Rattle.aes.proofs.Rows.{dot_is, four}
@@ -21,7 +21,7 @@ Small s = (i : ℕ) → get_or s i 0 < 256
 
 -- ---- the schedule
 abbrev sub_word_by_table : List ℕ → List ℕ
-sub_word_by_table w = map (λ x. get_or SBOX x 0) w
+sub_word_by_table w = map (λ x. get_or sbox_table x 0) w
 
 -- SubWord of a list of bytes is the table's entry at each byte
 sub_word_is : (w : List ℕ) → Small w → sub_word w ≡ sub_word_by_table w
@@ -80,7 +80,7 @@ schedule_is key k = words_is key (4 * (round_count key + 1)) k.bytes
 
 -- ---- the rounds
 unfoldable pub sub_by_table : List ℕ → List ℕ
-sub_by_table s = grid (λ r c. get_or SBOX (at s r c) 0)
+sub_by_table s = grid (λ r c. get_or sbox_table (at s r c) 0)
 
 -- SubBytes of a list of bytes is the table's entry at each byte
 sub_is : (s : List ℕ) → Small s → sub_bytes s ≡ sub_by_table s

@@ -11,7 +11,7 @@ use lib.Lanes.{zip2, Each1}
 use Rattle.aes.specs.Field.{times, sbox}
 use Rattle.aes.specs.Code.Lanes.{HasLanes, IsPlace, entry, in_basis, from_basis, linear_sbox}
 use Rattle.aes.specs.Code.Lanes.{both_at, first_at, second_at, u_at, t_at, by_inverse}
-use Rattle.aes.specs.declared.sbox.TheConstants.{SBOX}
+use Rattle.aes.proofs.Tables.{sbox_table}
 use Rattle.aes.specs.declared.lanes.TheConstants.{TO_LOW, TO_HIGH, FROM_LOW, FROM_HIGH, PLAIN_BY_FIRST}
 use Rattle.aes.specs.declared.lanes.TheConstants.{PLAIN_BY_SECOND, ONCE_BY_FIRST, ONCE_BY_SECOND}
 use Rattle.aes.specs.declared.lanes.TheConstants.{TWICE_BY_FIRST, TWICE_BY_SECOND}
@@ -252,13 +252,13 @@ t_place y h = (places_at y h).4
 
 -- the PLAIN tables give the S-box without its constant, tested at each byte
 plain_computed : all_below
-    (λ b. by_inverse PLAIN_BY_FIRST PLAIN_BY_SECOND (in_basis b) == bit_xor (get_or SBOX b 0) 0x63) 256 ≡ true
+    (λ b. by_inverse PLAIN_BY_FIRST PLAIN_BY_SECOND (in_basis b) == bit_xor (get_or sbox_table b 0) 0x63) 256 ≡ true
 unfolding in_basis u_at t_at
 plain_computed = refl
 
 -- the ONCE tables give the S-box without its constant, in the basis, tested at each byte
 once_computed : all_below
-    (λ b. by_inverse ONCE_BY_FIRST ONCE_BY_SECOND (in_basis b) == in_basis (bit_xor (get_or SBOX b 0) 0x63))
+    (λ b. by_inverse ONCE_BY_FIRST ONCE_BY_SECOND (in_basis b) == in_basis (bit_xor (get_or sbox_table b 0) 0x63))
     256 ≡ true
 unfolding in_basis u_at t_at
 once_computed = refl
@@ -266,7 +266,7 @@ once_computed = refl
 -- the TWICE tables give twice the S-box without its constant, in the basis, tested at each byte
 twice_computed : all_below
     (λ b. by_inverse TWICE_BY_FIRST TWICE_BY_SECOND (in_basis b) == in_basis
-    (double (bit_xor (get_or SBOX b 0) 0x63))) 256 ≡ true
+    (double (bit_xor (get_or sbox_table b 0) 0x63))) 256 ≡ true
 unfolding in_basis u_at t_at
 twice_computed = refl
 
@@ -277,17 +277,17 @@ linear_small x h = xor_of_8 (sbox x) 0x63 (sbox_small x h) (omega arith)
 
 -- a function that is tested against h of the S-box table's entry is h of `linear_sbox`
 by_sbox : (g h : ℕ → ℕ) (b : ℕ) → b < 256
-    → all_below (λ b. g b == h (bit_xor (get_or SBOX b 0) 0x63)) 256 ≡ true → g b ≡ h (linear_sbox b)
+    → all_below (λ b. g b == h (bit_xor (get_or sbox_table b 0) 0x63)) 256 ≡ true → g b ≡ h (linear_sbox b)
 unfolding linear_sbox
 by_sbox g h b l test =
-    eqb-true (g b) (h (bit_xor (get_or SBOX b 0) 0x63))
-    (all_below_at (λ b. g b == h (bit_xor (get_or SBOX b 0) 0x63)) 256 b test l)
+    eqb-true (g b) (h (bit_xor (get_or sbox_table b 0) 0x63))
+    (all_below_at (λ b. g b == h (bit_xor (get_or sbox_table b 0) 0x63)) 256 b test l)
     ∙ ap (λ (s : ℕ). h (bit_xor s 0x63)) (sbox_at b l)
 
 -- if the lanes are two tables' entries at bytes in the basis, which were tested against h, they are h of `linear_sbox`
 substituted : {n : ℕ} (p q v x : List ℕ) (s h : ℕ → ℕ) → HasLanes n v (λ k. by_inverse p q (get_or x k 0))
     → ((k : ℕ) → k < n → s k < 256) → HasLanes n x (λ k. in_basis (s k))
-    → all_below (λ b. by_inverse p q (in_basis b) == h (bit_xor (get_or SBOX b 0) 0x63)) 256 ≡ true
+    → all_below (λ b. by_inverse p q (in_basis b) == h (bit_xor (get_or sbox_table b 0) 0x63)) 256 ≡ true
     → HasLanes n v (λ k. h (linear_sbox (s k)))
 substituted p q v x s h made small held test =
     same_lanes v made (λ k l. ap (by_inverse p q) (held.each k l)

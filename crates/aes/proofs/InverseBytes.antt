@@ -10,7 +10,7 @@ use Rattle.aes.specs.Cipher.{at, grid, column, sub_bytes, shift_rows, add_round_
 use Rattle.aes.specs.Code.InverseSteps.{unmix_column, inverse_mix_columns, round_key}
 use Rattle.aes.specs.Code.Lanes.{HasLanes, entry, row_target, u_at, t_at, by_inverse}
 use Rattle.aes.specs.Code.InverseLanes.{row_below, mix_of, matrix_undone, affine_undone, HoldsUndone}
-use Rattle.aes.specs.declared.sbox.TheConstants.{SBOX}
+use Rattle.aes.proofs.Tables.{sbox_table}
 use Rattle.aes.specs.declared.inverse_lanes.TheConstants.{UNDONE_LOW, UNDONE_HIGH, PLAIN_BY_FIRST}
 use Rattle.aes.specs.declared.inverse_lanes.TheConstants.{PLAIN_BY_SECOND, FOURTEEN_BY_FIRST, FOURTEEN_BY_SECOND}
 use Rattle.aes.specs.declared.inverse_lanes.TheConstants.{FOURTEEN_LOW, FOURTEEN_HIGH, ELEVEN_BY_FIRST}
@@ -87,7 +87,7 @@ gives_multiple n p q y = by_nibbles p q y == matrix_undone (product_of 4 y n)
 
 -- whether two tables of an inverse give n times the byte that the S-box takes to this one
 abbrev gives_inverse : ℕ → List ℕ → List ℕ → ℕ → Bool
-gives_inverse n p q y = by_inverse p q (affine_undone (get_or SBOX y 0)) == matrix_undone (product_of 4 y n)
+gives_inverse n p q y = by_inverse p q (affine_undone (get_or sbox_table y 0)) == matrix_undone (product_of 4 y n)
 
 plain_key : all_below (λ y. by_nibbles UNDONE_LOW UNDONE_HIGH y == matrix_undone y) 256 ≡ true
 unfolding matrix_undone
@@ -168,7 +168,7 @@ pub state_lanes : (n : ℕ) (p q v u t x : List ℕ) (s : ℕ → ℕ) → n < 1
 state_lanes n p q v u t x s h made hu ht held small test =
     same_lanes v (inverse_lanes p q v u t x s made hu ht held) (λ k l.
     ap (λ (z : ℕ). by_inverse p q (affine_undone z)) (sym (sbox_at (s k) (small k)))
-    ∙ tested (λ y. by_inverse p q (affine_undone (get_or SBOX y 0))) (λ y. matrix_undone (product_of 4 y n)) test (s k)
+    ∙ tested (λ y. by_inverse p q (affine_undone (get_or sbox_table y 0))) (λ y. matrix_undone (product_of 4 y n)) test (s k)
     (small k)
     ∙ ap matrix_undone (multiple_is n (s k) h (small k)))
 

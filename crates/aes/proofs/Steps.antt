@@ -11,7 +11,7 @@ use Rattle.octets.specs.Bits.{bits}
 use Rattle.octets.specs.Polynomial.{product, residue}
 use Rattle.octets.proofs.Residue.{length_residue}
 use Rattle.octets.proofs.BitFacts.{number_lt}
-use Rattle.aes.specs.declared.sbox.TheConstants.{SBOX}
+use Rattle.aes.proofs.Tables.{sbox_table}
 use Rattle.aes.specs.declared.inverse_lanes.TheConstants.{PLAIN_BY_FIRST, PLAIN_BY_SECOND}
 use Rattle.aes.specs.Code.Lanes.{by_inverse, u_at, t_at}
 use Rattle.aes.specs.Code.InverseLanes.{matrix_undone, affine_undone}
@@ -61,28 +61,28 @@ unfoldable pub unsbox : ℕ → ℕ
 unsbox y = by_inverse PLAIN_BY_FIRST PLAIN_BY_SECOND (affine_undone y)
 
 -- the table of the S-box undoes `unsbox`, whose values are bytes, tested at each byte
-onto_computed : all_below (λ y. (get_or SBOX (unsbox y) 0 == y) && ltb (unsbox y) 256) 256 ≡ true
+onto_computed : all_below (λ y. (get_or sbox_table (unsbox y) 0 == y) && ltb (unsbox y) 256) 256 ≡ true
 unfolding unsbox u_at t_at matrix_undone
 onto_computed = refl
 
 -- `unsbox` undoes the table of the S-box, whose entries are bytes, tested at each byte
-back_computed : all_below (λ x. (unsbox (get_or SBOX x 0) == x) && ltb (get_or SBOX x 0) 256) 256 ≡ true
+back_computed : all_below (λ x. (unsbox (get_or sbox_table x 0) == x) && ltb (get_or sbox_table x 0) 256) 256 ≡ true
 unfolding unsbox u_at t_at matrix_undone
 back_computed = refl
 
 -- the table of the S-box undoes `unsbox`, whose values are bytes
-onto_parts : (y : ℕ) → y < 256 → (get_or SBOX (unsbox y) 0 ≡ y) × (unsbox y < 256)
+onto_parts : (y : ℕ) → y < 256 → (get_or sbox_table (unsbox y) 0 ≡ y) × (unsbox y < 256)
 onto_parts y h =
-    let both = and_parts (get_or SBOX (unsbox y) 0 == y) (ltb (unsbox y) 256)
-    (all_below_at (λ y. (get_or SBOX (unsbox y) 0 == y) && ltb (unsbox y) 256) 256 y onto_computed h) in
-    (eqb-true (get_or SBOX (unsbox y) 0) y both.0, ltb-true (unsbox y) 256 both.1)
+    let both = and_parts (get_or sbox_table (unsbox y) 0 == y) (ltb (unsbox y) 256)
+    (all_below_at (λ y. (get_or sbox_table (unsbox y) 0 == y) && ltb (unsbox y) 256) 256 y onto_computed h) in
+    (eqb-true (get_or sbox_table (unsbox y) 0) y both.0, ltb-true (unsbox y) 256 both.1)
 
 -- `unsbox` undoes the table of the S-box, whose entries are bytes
-back_parts : (x : ℕ) → x < 256 → (unsbox (get_or SBOX x 0) ≡ x) × (get_or SBOX x 0 < 256)
+back_parts : (x : ℕ) → x < 256 → (unsbox (get_or sbox_table x 0) ≡ x) × (get_or sbox_table x 0 < 256)
 back_parts x h =
-    let both = and_parts (unsbox (get_or SBOX x 0) == x) (ltb (get_or SBOX x 0) 256)
-    (all_below_at (λ x. (unsbox (get_or SBOX x 0) == x) && ltb (get_or SBOX x 0) 256) 256 x back_computed h) in
-    (eqb-true (unsbox (get_or SBOX x 0)) x both.0, ltb-true (get_or SBOX x 0) 256 both.1)
+    let both = and_parts (unsbox (get_or sbox_table x 0) == x) (ltb (get_or sbox_table x 0) 256)
+    (all_below_at (λ x. (unsbox (get_or sbox_table x 0) == x) && ltb (get_or sbox_table x 0) 256) 256 x back_computed h) in
+    (eqb-true (unsbox (get_or sbox_table x 0)) x both.0, ltb-true (get_or sbox_table x 0) 256 both.1)
 
 -- `unsbox` of a byte is a byte
 pub unsbox_small : (y : ℕ) → y < 256 → unsbox y < 256

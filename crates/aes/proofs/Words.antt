@@ -1,13 +1,11 @@
 -- The words of a schedule.
 use Rattle.std.proofs.Common.{◌≡◌, ℕ, zero, suc, ◌+◌, ◌-◌, ◌*◌, ◌/◌, ◌%◌, ◌<◌, ◌≤◌, cond, ◌==◌, ◌&&◌}
-use Rattle.std.proofs.Common.{List, [], ◌∷◌, take, drop, get_or, length, set, inl}
+use Rattle.std.proofs.Common.{List, [], ◌∷◌, take, drop, get_or, length, inl}
 use Rattle.std.proofs.Common.{inr, refl, sym, ap, ap₂, ◌∙◌, arith, lt-ltb, le-ltb, add-one}
-use Rattle.std.proofs.lemmas.Bool.{cases_eq, cases_lt, and_parts, false_from_ne_true, eq-eqb, ne_eqb}
+use Rattle.std.proofs.lemmas.Bool.{cases_lt, and_parts, false_from_ne_true, eq-eqb, ne_eqb}
 use Rattle.std.proofs.lemmas.Bool.{eqb-true}
 use Rattle.std.proofs.lemmas.List.{get_or_append_left, get_or_push}
-use Rattle.std.proofs.lemmas.List.{length_push, drop_more}
-use Rattle.std.proofs.lemmas.List.{get_or-set_same, get_or-set_other}
-use Rattle.aes.specs.Code.Columns.{column_of}
+use Rattle.std.proofs.lemmas.List.{length_push}
 use Rattle.aes.specs.Schedule.{xor_word, key_words, temp, next_word, words, sub_word, rot_word}
 use Rattle.aes.specs.Schedule.{rcon, round_count, MeetsRecurrence}
 
@@ -80,29 +78,6 @@ temp_other nk i t h no_fourth =
           (λ e. let p = and_parts (nk == 8) (i % 8 == 4) e in
           no_fourth (eqb-true nk 8 p.0) (eqb-true (i % 8) 4 p.1)),
     ) refl
-
--- the four items of a list from place n on are those at n, n + 1, n + 2 and n + 3
-pub take_four : (s : List ℕ) (n : ℕ) → n + 4 ≤ length s
-    → take 4 (drop n s) ≡ get_or s n 0 ∷ get_or s (n + 1) 0 ∷ get_or s (n + 2) 0 ∷ get_or s (n + 3) 0 ∷ []
-take_four s n h =
-    let up : (n + 1) + 1 ≡ n + 2 = omega arith in
-    let up2 : (n + 2) + 1 ≡ n + 3 = omega arith in
-    ap (take 4) (drop_more s n 0 (omega arith))
-    ∙ ap (λ x. get_or s n 0 ∷ x) (
-    ap (take 3) (drop_more s (n + 1) 0 (omega arith) ∙ ap (λ i. get_or s (n + 1) 0 ∷ drop i s) up)
-    ∙ ap (λ x. get_or s (n + 1) 0 ∷ x) (
-    ap (take 2) (drop_more s (n + 2) 0 (omega arith) ∙ ap (λ i. get_or s (n + 2) 0 ∷ drop i s) up2)
-    ∙ ap (λ x. get_or s (n + 2) 0 ∷ x) (ap (take 1) (drop_more s (n + 3) 0 (omega arith)))))
-
--- if the first i words spell the columns of f, writing one that spells the next column makes i + 1 of them
-pub one_more_word : (f : ℕ → List ℕ) (ws : List ℕ) (i v : ℕ) → i < length ws
-    → ((k : ℕ) → k < i → column_of (get_or ws k 0) ≡ f k) → column_of v ≡ f i → (k : ℕ) → k < i + 1
-    → column_of (get_or (set ws i v) k 0) ≡ f k
-one_more_word f ws i v h before e k l =
-    elim (cases_eq k i) [
-      | inl g ↦ rw g (ap column_of (get_or-set_same ws i v 0 h) ∙ e)
-      | inr g ↦ ap column_of (get_or-set_other ws i k v 0 g) ∙ before k (omega arith)
-    ]
 
 -- the law `MeetsRecurrence`
 pub meets_recurrence : MeetsRecurrence

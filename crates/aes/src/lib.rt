@@ -28,14 +28,12 @@ mod key_planes;
 mod lanes;
 mod planes;
 mod round_tables;
-mod sbox;
 mod schedule;
 mod uses;
 
-pub use cipher::is_permutation;
+pub use cipher::{inverse_is_the_only, is_permutation};
 pub use columns::round;
 pub use counter::{Ctr, CtrBe, CtrLe, KnownBlock, blocks_count_on};
 pub use inverse_key::InverseKey;
 pub use key::{AesKey, KeptKey};
-pub use sbox::inverse_is_the_only;
 pub use schedule::schedule_recurs;
