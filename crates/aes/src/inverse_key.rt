@@ -2,10 +2,10 @@
 
 ghost use Rattle.std.specs.Prelude.{◌≡◌, ◌<◌, ◌≤◌, ℕ, List};
 ghost use Rattle.octets.specs.Bytes.{IsBlock};
-ghost use Rattle.aes.specs.Schedule.{round_count};
-ghost use Rattle.aes.specs.Cipher.{IsKey, IsPreimage};
+ghost use Rattle.aes.specs.Cipher.{IsPreimage};
 
 use crate::inverse_lanes::{begin, end, inverse_round, middle_key};
+use crate::key::AesKey;
 use octets::Block;
 use std::simd::prelude::*;
 use std::simd::u8x16;
@@ -22,19 +22,19 @@ pub struct InverseKey {
 }
 
 impl InverseKey {
-    ghost use Rattle.aes.specs.Code.InverseKey.{IsInverse, HasRoundKeys};
+    ghost use Rattle.aes.specs.Code.InverseKey.{IsInverse};
 
-    // Makes the key with these round keys, one more than it has rounds.
-    pub(crate) fn new(round_keys: &[[u8; 16]; 15], rounds: usize) -> InverseKey
-        requires some { 0 < rounds }
-        requires few { rounds < 15 }
-        ensures { (key : List ℕ) → IsKey key → rounds ≡ round_count key → HasRoundKeys round_keys.now key
-            → IsInverse result key }
+    // Makes a key ready. Each of its round keys is made and written in one step, so that no array of them is copied before.
+    pub(crate) fn new(key: &AesKey) -> InverseKey
+        ensures { IsInverse result key.now }
     {
-        let mut keys = *round_keys;
+        let rounds = key.rounds();
+        let mut keys = [[0; 16]; 15];
+        keys[0] = key.plain_key(0);
         'middle: for n in 1..rounds {
-            keys[n] = middle_key(u8x16::from_array(round_keys[n]));
+            keys[n] = middle_key(u8x16::from_array(key.plain_key(n)));
         }
+        keys[rounds] = key.plain_key(rounds);
         InverseKey { keys, rounds }
     }
 

@@ -5,7 +5,7 @@ ghost use Rattle.std.specs.Prelude.{MatchResult};
 ghost use Rattle.octets.specs.Bytes.{IsBlock, block_at};
 ghost use Rattle.aes.specs.Cipher.{cipher, IsKey, IsKeyLength, IsPreimage};
 ghost use Rattle.aes.specs.Code.ExpandedKey.{own_key};
-ghost use Rattle.aes.specs.Code.InverseKey.{HasRoundKeys, IsInverse};
+ghost use Rattle.aes.specs.Code.InverseKey.{IsInverse};
 ghost use Rattle.aes.specs.Code.Lanes.{HoldsBlocks};
 ghost use Rattle.aes.specs.Code.Columns.{column_of, columns_of};
 ghost use Rattle.aes.specs.Code.Planes.{AreReady, HoldsBits, HoldsEight, HoldsLanes, HoldsSixteen, word_byte};
@@ -157,9 +157,21 @@ impl AesKey {
         }
     }
 
+    // The number of rounds (FIPS 197, 5).
+    #[inline(always)]
+    pub(crate) fn rounds(&self) -> usize
+        ensures count { result ≡ round_count self.now }
+        ensures is_key { IsKey self.now }
+        ensures some { 0 < result }
+        ensures few { result < 15 }
+    {
+        self.is_key();
+        self.size + 6
+    }
+
     // A round key as the standard has it (FIPS 197, 5.2).
     #[inline(always)]
-    fn plain_key(&self, n: usize) -> [u8; 16]
+    pub(crate) fn plain_key(&self, n: usize) -> [u8; 16]
         requires { n < 15 }
         ensures { n ≤ round_count self.now
             → (i : ℕ) → i < 16 → slice_index result i ≡ word_byte (schedule self.now) n i }
@@ -172,17 +184,6 @@ impl AesKey {
             return key.sum(u8x16::splat(0x63)).to_array();
         }
         from_basis(unshift_rows(key.sum(u8x16::splat(0x7c)))).to_array()
-    }
-
-    // The round keys as the standard has them, and zeros after them (FIPS 197, 5.2).
-    fn round_keys(&self) -> [[u8; 16]; 15]
-        ensures { HasRoundKeys result self.now }
-    {
-        let mut keys = [[0; 16]; 15];
-        'keys: for n in 0..self.size + 7 {
-            keys[n] = self.plain_key(n);
-        }
-        keys
     }
 
     // The four words of a round key, as columns.
@@ -368,8 +369,7 @@ impl AesKey {
     pub fn inverse(&self) -> InverseKey
         ensures { IsInverse result self.now }
     {
-        self.is_key();
-        InverseKey::new(&self.round_keys(), self.size + 6)
+        InverseKey::new(self)
     }
 
     /// Returns the block of 16 bytes that the cipher takes to `block`; it is the only one (FIPS 197, 5.3). To decrypt many

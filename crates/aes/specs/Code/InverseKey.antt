@@ -1,14 +1,10 @@
 -- A key that is prepared for the equivalent inverse cipher (FIPS 197, 5.3.5).
-use Rattle.std.specs.Prelude.{◌≡◌, ℕ, ◌<◌, ◌≤◌, List, [], slice_index_or}
+use Rattle.std.specs.Prelude.{◌≡◌, ℕ, ◌<◌, List, [], slice_index_or}
 use Rattle.aes.specs.Schedule.{schedule, round_count}
 use Rattle.aes.specs.Cipher.{IsKey}
 use Rattle.aes.specs.Code.InverseSteps.{round_key, inverse_mix_columns}
 use Rattle.aes.specs.Code.InverseLanes.{HoldsUndone}
 use Rattle.aes.specs.declared.inverse_key.InverseKey.{InverseKey}
-
--- the arrays are the round keys of the key's schedule, in order
-pub record HasRoundKeys (keys : List (List ℕ)) (key : List ℕ) : Type 0 where
-  pub each : (n : ℕ) → n ≤ round_count key → slice_index_or keys n [] ≡ round_key (schedule key) n
 
 -- the arrays of s are the round keys of the key's schedule; those between the first and the last are after InvMixColumns, in the
 -- form that the inverse S-box takes

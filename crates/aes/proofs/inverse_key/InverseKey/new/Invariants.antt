@@ -1,12 +1,12 @@
-use Rattle.std.proofs.Common.{◌≡◌, ℕ, ◌<◌, ◌≤◌, [], get_or, length}
-use Rattle.aes.specs.Code.InverseSteps.{inverse_mix_columns}
+use Rattle.std.proofs.Common.{◌≡◌, ℕ, ◌<◌, [], get_or, length}
+use Rattle.aes.specs.Schedule.{schedule}
+use Rattle.aes.specs.Code.InverseSteps.{round_key, inverse_mix_columns}
 use Rattle.aes.specs.Code.InverseLanes.{HoldsUndone}
 use Rattle.aes.proofs.inverse_key.InverseKey.new.Given as goal
 
 abbrev pub invariant-middle : goal.invariant-middle
 invariant-middle l = record {
   size : length l.keys ≡ 15;
-  first : get_or l.keys 0 [] ≡ get_or l.round_keys 0 [];
-  middle : (k : ℕ) → 0 < k → k < l.n → HoldsUndone (get_or l.keys k []) (inverse_mix_columns (get_or l.round_keys k []));
-  rest : (k : ℕ) → l.n ≤ k → get_or l.keys k [] ≡ get_or l.round_keys k [];
+  first : get_or l.keys 0 [] ≡ round_key (schedule l.key) 0;
+  middle : (k : ℕ) → 0 < k → k < l.n → HoldsUndone (get_or l.keys k []) (inverse_mix_columns (round_key (schedule l.key) k));
 }

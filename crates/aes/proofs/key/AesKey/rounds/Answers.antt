@@ -1,0 +1,11 @@
+use Rattle.std.proofs.Common.{arith}
+use Rattle.aes.proofs.Expanded.{kept_length}
+use Rattle.aes.proofs.key.AesKey.rounds.Goals as goal
+
+pub returns-clause-count : goal.returns-clause-count
+returns-clause-count c =
+    let long = kept_length c.self.inside.keys c.self.inside.size c.args.self.now c.self.invariant c.self.view_is in
+    omega arith
+
+pub returns-clause-is_key : goal.returns-clause-is_key
+returns-clause-is_key c = c.is_key.ensures
