@@ -160,6 +160,48 @@ moved_up r c e at small =
     ∙ ap₂ (λ (x y : ℕ). x * 2 ^ 64 + y) upper (xor_zero_r q0) in
     all ∙ omega (arith, split, first.0, second.0)
 
+-- a word shifted down: the lanes are shifted down, and the lower one takes what the upper one loses
+pub shifted_is : (r c e : ℕ) → c + e ≡ 64 → r < 2 ^ 128
+    → bit_xor (lanes_up c (r / 2 ^ 64)) (lanes_down e r) ≡ r / 2 ^ e
+shifted_is r c e at small =
+    let low : ℕ = r % 2 ^ 64 in
+    let high : ℕ = r / 2 ^ 64 in
+    let q0 : ℕ = low * 2 ^ c % 2 ^ 64 in
+    let q1 : ℕ = high * 2 ^ c % 2 ^ 64 in
+    let d : ℕ = lanes_down e r in
+    let own : high % 2 ^ 64 ≡ high = omega arith in
+    let none : high / 2 ^ 64 ≡ 0 = omega arith in
+    let one_lane : lanes_up c high ≡ q1 =
+    ap₂ (λ (x y : ℕ). x * 2 ^ c % 2 ^ 64 + 2 ^ 64 * (y * 2 ^ c % 2 ^ 64)) own none
+    ∙ ap (λ (x : ℕ). q1 + 2 ^ 64 * (x % 2 ^ 64)) (zero-mul (2 ^ c)) ∙ omega arith in
+    let l0 : q0 < 2 ^ 64 = omega arith in
+    let up_is : lanes_up c r ≡ q1 * 2 ^ 64 + q0 = omega arith in
+    let above : lanes_up c r / 2 ^ 64 ≡ q1 = omega (arith, up_is, l0) in
+    let out : r * 2 ^ c / 2 ^ 64 ≡ r / 2 ^ e =
+    ap (λ (k : ℕ). r * 2 ^ c / 2 ^ k) (sym at) ∙ sym (shr-shr (r * 2 ^ c) c e) ∙ ap (λ (x : ℕ). x / 2 ^ e) (shl-shr r c) in
+    ap₂ bit_xor (one_lane ∙ sym above) (sym (shl-shr d 64))
+    ∙ sym (xor_shr (lanes_up c r) (d * 2 ^ 64) 64) ∙ ap (λ (x : ℕ). x / 2 ^ 64) (moved_up r c e at small) ∙ out
+
+-- the lower lane in the place of the upper one
+pub lane_above : (bs : List ℕ) → IsBlock bs → digits_l 256 16 (number_l (2 ^ 64) (0 ∷ number_l 256 bs % 2 ^ 64 ∷ []))
+    ≡ to_le_bytes w128 (le bs * 2 ^ 64 % 2 ^ 128)
+lane_above bs is =
+    let n : ℕ = le bs in
+    let small : n < 2 ^ 128 = le_block bs is in
+    let number : 0 + 2 ^ 64 * (n % 2 ^ 64) ≡ n * 2 ^ 64 % 2 ^ 128 = omega arith in
+    ap (λ (x : ℕ). digits_l 256 16 (number_l (2 ^ 64) (0 ∷ x % 2 ^ 64 ∷ []))) (number_of bs)
+    ∙ two_lanes 0 (n % 2 ^ 64) (omega arith) (omega arith) ∙ ap (to_le_bytes w128) number
+
+-- the upper lane in the place of the lower one
+pub lane_below : (bs : List ℕ) → IsBlock bs → digits_l 256 16 (number_l (2 ^ 64) (number_l 256 bs / 2 ^ 64 % 2 ^ 64 ∷ 0 ∷ []))
+    ≡ to_le_bytes w128 (le bs / 2 ^ 64)
+lane_below bs is =
+    let n : ℕ = le bs in
+    let small : n < 2 ^ 128 = le_block bs is in
+    let number : n / 2 ^ 64 % 2 ^ 64 + 2 ^ 64 * 0 ≡ n / 2 ^ 64 = omega arith in
+    ap (λ (x : ℕ). digits_l 256 16 (number_l (2 ^ 64) (x / 2 ^ 64 % 2 ^ 64 ∷ 0 ∷ []))) (number_of bs)
+    ∙ two_lanes (n / 2 ^ 64 % 2 ^ 64) 0 (omega arith) (omega arith) ∙ ap (to_le_bytes w128) number
+
 -- ---- three words as one number
 
 -- a word that is moved by less than a lane

@@ -142,14 +142,13 @@ impl PlainMultiples {
         at.look(self.high[j], self.low[j])
     }
 
-    // Multiplies the word whose multiples these are by another word.
+    // Multiplies the word whose multiples these are by another word, both as vectors.
     #[inline(always)]
-    pub(crate) fn times_word(&self, x: u128) -> u128
+    pub(crate) fn times_lanes(&self, word: Lanes) -> Lanes
         ensures { (h : ℕ) → AreMultiples (of_word h) (entry self.now.high) (entry self.now.low)
-            → IsWordProduct x (to_be_bytes w128 h) result }
+            → IsWordProduct (le word.bytes) (to_be_bytes w128 h) (le result.bytes) }
     {
         self.bytes_known();
-        let word = Lanes::of(x);
         let at = Nibbles::of(word);
         let mut sum = Placed::none();
         'low: for j in 0..7usize {
@@ -162,5 +161,15 @@ impl PlainMultiples {
         }
         let last = self.part(at, 15);
         sum.reduce_with(last)
+    }
+
+    // Multiplies the word whose multiples these are by another word.
+    #[inline(always)]
+    pub(crate) fn times_word(&self, x: u128) -> u128
+        ensures { (h : ℕ) → AreMultiples (of_word h) (entry self.now.high) (entry self.now.low)
+            → IsWordProduct x (to_be_bytes w128 h) result }
+    {
+        let word = Lanes::of(x);
+        self.times_lanes(word).word()
     }
 }

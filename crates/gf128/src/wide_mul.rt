@@ -137,8 +137,8 @@ impl WideMul {
 
     // The sum of four words times four powers of the key, the fourth power first.
     #[inline(always)]
-    fn times_lanes(&self, a: Lanes, b: Lanes, c: Lanes, d: Lanes) -> u128
-        ensures { IsFourProducts (le a.bytes) (le b.bytes) (le c.bytes) (le d.bytes) (to_be_bytes w128 self.now.first.word) result }
+    fn times_lanes(&self, a: Lanes, b: Lanes, c: Lanes, d: Lanes) -> Lanes
+        ensures { IsFourProducts (le a.bytes) (le b.bytes) (le c.bytes) (le d.bytes) (to_be_bytes w128 self.now.first.word) (le result.bytes) }
     {
         self.first.multiples.bytes_known();
         self.second.multiples.bytes_known();
@@ -180,15 +180,13 @@ impl WideMul {
     fn times_blocks<O: HashOrder>(&self, sum: u128, blocks: &[[u8; 16]; 4]) -> u128
         ensures { Agree (of_word result) (sum_after O.order (to_be_bytes w128 self.now.first.word) (of_word sum) blocks.now 4) }
     {
-        let first = sum ^ O::word_of(&blocks[0]);
-        let second = O::word_of(&blocks[1]);
-        let third = O::word_of(&blocks[2]);
-        let fourth = O::word_of(&blocks[3]);
-        let a = Lanes::of(first);
-        let b = Lanes::of(second);
-        let c = Lanes::of(third);
-        let d = Lanes::of(fourth);
-        self.times_lanes(a, b, c, d)
+        // The sum becomes a vector before the block is added, so that it stays one from one run of four to the next.
+        let first = Lanes::of_bytes(O::word_bytes(&blocks[0]));
+        let a = Lanes::of(sum).xor(first);
+        let b = Lanes::of_bytes(O::word_bytes(&blocks[1]));
+        let c = Lanes::of_bytes(O::word_bytes(&blocks[2]));
+        let d = Lanes::of_bytes(O::word_bytes(&blocks[3]));
+        self.times_lanes(a, b, c, d).word()
     }
 }
 

@@ -1,10 +1,21 @@
+use Rattle.std.proofs.Common.{◌≡◌, ℕ, ◌∙◌, ap, bit_xor}
 use Rattle.std.specs.Int.{w128, to_be_bytes}
+use Rattle.octets.specs.Bytes.{le}
+use Rattle.gf128.specs.Code.Words.{of_word, IsFourProducts}
 use Rattle.gf128.proofs.SumsAfter.{four_after}
 use Rattle.gf128.proofs.wide_mul.WideMul.times_blocks.Goals as goal
 
 pub returns : goal.returns
 returns g c =
-    four_after g.O.HashOrder.order (to_be_bytes w128 c.args.self.now.first.word) c.args.blocks.now c.args.sum c.word_of.result
-    c.word_of-second.result c.word_of-third.result c.word_of-fourth.result c.times_lanes.result c.word_of.ensures c.word_of-second.ensures
-    c.word_of-third.ensures c.word_of-fourth.ensures
-    (rw (c.of-a.ensures, c.of-b.ensures, c.of-c.ensures, c.of-d.ensures) at c.times_lanes.ensures)
+    let k = to_be_bytes w128 c.args.self.now.first.word in
+    let s : ℕ = c.args.sum in
+    let p : ℕ = le c.of_bytes-first.result.bytes in
+    let added : le c.xor-a.result.bytes ≡ bit_xor s p = c.xor-a.ensures ∙ ap (λ (n : ℕ). bit_xor n p) c.of.ensures in
+    let is : IsFourProducts (bit_xor s p) (le c.of_bytes-b.result.bytes) (le c.of_bytes-c.result.bytes) (le c.of_bytes-d.result.bytes) k
+    c.word.result = rw (c.word.ensures, ← added) c.times_lanes.ensures in
+    four_after g.O.HashOrder.order k c.args.blocks.now s p (le c.of_bytes-b.result.bytes) (le c.of_bytes-c.result.bytes)
+    (le c.of_bytes-d.result.bytes) c.word.result
+    (ap (λ w. of_word (le w)) c.of_bytes-first.ensures ∙ c.word_bytes.ensures)
+    (ap (λ w. of_word (le w)) c.of_bytes-b.ensures ∙ c.word_bytes-2.ensures)
+    (ap (λ w. of_word (le w)) c.of_bytes-c.ensures ∙ c.word_bytes-3.ensures)
+    (ap (λ w. of_word (le w)) c.of_bytes-d.ensures ∙ c.word_bytes-4.ensures) is
