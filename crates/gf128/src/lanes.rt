@@ -2,7 +2,7 @@
 
 ghost use Rattle.std.specs.Prelude.{◌≡◌, ◌+◌, ◌*◌, ◌/◌, ◌%◌, ◌^◌, ◌<◌, bit_xor};
 ghost use Rattle.octets.specs.Bytes.{IsBlock, le};
-ghost use Rattle.gf128.specs.Code.Words.{lanes_up, lanes_down};
+ghost use Rattle.gf128.specs.Code.Words.{lanes_up, lanes_down, IsMoved};
 
 use octets::le_bytes;
 use std::simd::prelude::*;
@@ -122,5 +122,17 @@ impl Lanes {
         let two = by_x2.xor(by_x7);
         let three = by_x.xor(two);
         self.xor(three)
+    }
+
+    // The word times x^`count` in GHASH's field, fewer than 8: what falls out below is folded in. It is left to LLVM to inline
+    // this: were it always done, the body that makes all tables would be too long to be inlined itself, and they were copied.
+    pub(crate) fn times_power(self, count: u64) -> Lanes
+        requires some { 0 < count }
+        requires within { count < 8 }
+        ensures { IsMoved count (le self.bytes) (le result.bytes) }
+    {
+        let out = self.up(64 - count).lane_up();
+        let fold = out.folded();
+        self.shifted_down(count).xor(fold)
     }
 }

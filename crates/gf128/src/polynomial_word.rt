@@ -3,7 +3,7 @@
 ghost use Rattle.std.specs.Prelude.{◌≡◌, reverse};
 ghost use Rattle.octets.specs.Bytes.{IsBlock, le};
 ghost use Rattle.octets.specs.Bits.{g, v};
-ghost use Rattle.gf128.specs.Code.Words.{of_word, times_x, IsMoved};
+ghost use Rattle.gf128.specs.Code.Words.{of_word, times_x};
 
 use crate::lanes::Lanes;
 use octets::{Block, be_bytes, le_bytes};
@@ -71,22 +71,4 @@ pub(crate) fn times_x(word: u128) -> u128
     ensures { result ≡ times_x word }
 {
     (word >> 1) ^ (word % 2 * REDUCTION)
-}
-
-// Multiplies a word by x^2.
-#[inline(always)]
-fn times_x2(word: u128) -> u128
-    ensures { IsMoved 2 word result }
-{
-    let by_x = times_x(word);
-    times_x(by_x)
-}
-
-// Multiplies a word by x^4.
-#[inline(always)]
-pub(crate) fn times_x4(word: u128) -> u128
-    ensures { IsMoved 4 word result }
-{
-    let by_x2 = times_x2(word);
-    times_x2(by_x2)
 }
