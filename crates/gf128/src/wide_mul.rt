@@ -177,16 +177,16 @@ impl WideMul {
 
     // The sum after four blocks.
     #[inline(always)]
-    fn times_blocks<O: HashOrder>(&self, sum: u128, blocks: &[[u8; 16]; 4]) -> u128
-        ensures { Agree (of_word result) (sum_after O.order (to_be_bytes w128 self.now.first.word) (of_word sum) blocks.now 4) }
+    fn times_blocks<O: HashOrder>(&self, sum: Lanes, blocks: &[[u8; 16]; 4]) -> Lanes
+        ensures { Agree (of_word (le result.bytes))
+            (sum_after O.order (to_be_bytes w128 self.now.first.word) (of_word (le sum.bytes)) blocks.now 4) }
     {
-        // The sum becomes a vector before the block is added, so that it stays one from one run of four to the next.
         let first = Lanes::of_bytes(O::word_bytes(&blocks[0]));
-        let a = Lanes::of(sum).xor(first);
+        let a = sum.xor(first);
         let b = Lanes::of_bytes(O::word_bytes(&blocks[1]));
         let c = Lanes::of_bytes(O::word_bytes(&blocks[2]));
         let d = Lanes::of_bytes(O::word_bytes(&blocks[3]));
-        self.times_lanes(a, b, c, d).word()
+        self.times_lanes(a, b, c, d)
     }
 }
 
@@ -204,11 +204,13 @@ impl Multiply for WideMul {
     #[inline(always)]
     fn times_all<O: HashOrder>(&self, sum: u128, blocks: &[[u8; 16]]) -> u128 {
         let (fours, rest) = blocks.as_chunks::<4>();
-        let mut total = sum;
+        // The sum stays a vector from one run of four blocks to the next.
+        let mut total = Lanes::of(sum);
         'fours: for four in fours {
             total = self.times_blocks::<O>(total, four);
         }
-        times_few::<O>(&self.first.multiples, total, rest)
+        let taken = total.word();
+        times_few::<O>(&self.first.multiples, taken, rest)
     }
 }
 
