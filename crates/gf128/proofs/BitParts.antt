@@ -20,8 +20,7 @@ use Rattle.octets.proofs.Horner.{product_of_sum, product_one, residue_same}
 use Rattle.octets.proofs.Reversal.{raised, raised_low, raised_high, coefficient_below, times_power}
 use Rattle.gf128.specs.Ghash.{ghash_modulus}
 use Rattle.gf128.specs.Code.Words.{of_bits, of_word, IsReduced, IsBitsProduct, IsMoved, IsWordProduct}
-use Rattle.gf128.specs.Code.Words.{times_x}
-use Rattle.gf128.proofs.WordLemmas.{of_word_past, of_word_xor, of_word_zero, g-to_be, times_x_at}
+use Rattle.gf128.proofs.WordLemmas.{of_word_past, of_word_xor, of_word_zero, g-to_be}
 
 -- ---- bits of numbers
 
@@ -160,32 +159,9 @@ x_same w p q e =
     ∙ ap (raised w) e ∙ sym (fun_ext (coefficient_below w (residue m q))))
     ∙ x_residue w q
 
--- if z is x^w times b, and b is the residue of p, then z is the residue of x^w times p
-pub moved_is : (w b z : ℕ) (p : List Bool) → IsReduced p b → IsMoved w b z
-    → IsReduced (replicate w false ++ p) z
-moved_is w b z p is moved k =
-    let m : List Bool = ghash_modulus in
-    let up : List Bool → List Bool = λ (r : List Bool). replicate w false ++ r in
-    let same : coefficient (up (of_word b)) ≡ coefficient (up (residue m p)) =
-    fun_ext (coefficient_below w (of_word b)) ∙ ap (raised w) (fun_ext is)
-    ∙ sym (fun_ext (coefficient_below w (residue m p))) in
-    moved k ∙ ap (λ f. f k) (residue_same m (up (of_word b)) (up (residue m p)) refl same ∙ x_residue w p)
-
 -- a word is its own residue
 pub own_residue : (z : ℕ) → IsReduced (of_word z) z
 own_residue z k = sym (residue_of_lower ghash_modulus (of_word z) refl (λ i h. of_word_past z i h) k)
-
--- `times_x` multiplies a word by x
-pub times_x_moves : (n : ℕ) → n < 2 ^ 128 → IsMoved 1 n (times_x n)
-times_x_moves n small k = times_x_at n k small
-
--- a word that is multiplied by x twice is multiplied by x^2
-pub two_moves : (n a b : ℕ) → IsMoved 1 n a → IsMoved 1 a b → IsMoved 2 n b
-two_moves n a b ha hb = moved_is 1 a b (replicate 1 false ++ of_word n) ha hb
-
--- a word that is multiplied by x^2 twice is multiplied by x^4
-pub four_moves : (n a b : ℕ) → IsMoved 2 n a → IsMoved 2 a b → IsMoved 4 n b
-four_moves n a b ha hb = moved_is 2 a b (replicate 2 false ++ of_word n) ha hb
 
 -- ---- products of some bits
 

@@ -1,13 +1,15 @@
 -- Words as vectors of sixteen bytes, the least significant one first.
-use Rattle.std.proofs.Common.{◌≡◌, ℕ, zero, suc, ◌+◌, ◌*◌, ◌/◌, ◌%◌, ◌^◌, ◌<◌}
-use Rattle.std.proofs.Common.{List, [], ◌∷◌, length}
+use Rattle.std.proofs.Common.{◌≡◌, ℕ, zero, suc, ◌+◌, ◌-◌, ◌*◌, ◌/◌, ◌%◌, ◌^◌, ◌<◌}
+use Rattle.std.proofs.Common.{List, [], ◌∷◌, ◌++◌, length, replicate}
+use Rattle.std.proofs.lemmas.List.{append-nil}
+use lib.Lanes.{pick_l}
 use Rattle.std.proofs.Common.{get_or, reverse, bit_xor, refl, sym, ap, ap₂, ◌∙◌, arith, subst}
 use Rattle.std.proofs.Math.Nat.{pow-zero, pow-suc}
 use Rattle.std.proofs.lemmas.Nat.{xor_block, xor_lt}
 use Rattle.std.specs.Int.{w128, to_le_bytes, to_be_bytes}
 use Rattle.std.specs.Simd.Lanes.{digits_l, number_l}
 use Rattle.octets.specs.Bytes.{IsBlock, le, xor_bytes}
-use Rattle.octets.proofs.Numbers.{le_halves, le_small, power_of_bytes}
+use Rattle.octets.proofs.Numbers.{le_halves, le_padded, le_small, power_of_bytes}
 use Rattle.octets.proofs.Xors.{length-xor_bytes, xor_bytes_at}
 use Rattle.gf128.proofs.WordLemmas.{to_be_block, reverse_block}
 
@@ -67,3 +69,18 @@ xor_block_of xs ys hx hy =
           let at : get_or (xor_bytes xs ys) i 0 ≡ bit_xor (get_or xs i 0) (get_or ys i 0) = xor_bytes_at xs ys i same in
           subst (λ (n : ℕ). n < 256) (sym at) (xor_lt 8 (get_or xs i 0) (get_or ys i 0) (hx.bytes i) (hy.bytes i));
     }
+
+-- a block is the bytes of the number that it spells
+pub bytes_of_le : (bs : List ℕ) → IsBlock bs → to_le_bytes w128 (le bs) ≡ bs
+bytes_of_le bs is =
+    let none : 16 - length bs ≡ 0 = omega (arith, is.length_is) in
+    le_padded bs (omega (arith, is.length_is)) is.bytes ∙ ap (λ (n : ℕ). bs ++ replicate n 0) none ∙ append-nil bs
+
+-- the bytes of a block, picked from the last to the first
+pub picked_reversed : (bs : List ℕ) → IsBlock bs
+    → pick_l 0 (bs ++ bs) (15 ∷ 14 ∷ 13 ∷ 12 ∷ 11 ∷ 10 ∷ 9 ∷ 8 ∷ 7 ∷ 6 ∷ 5 ∷ 4 ∷ 3 ∷ 2 ∷ 1 ∷ 0 ∷ []) ≡ reverse bs
+picked_reversed bs is =
+    let of : (x : List ℕ) → List ℕ = λ x. pick_l 0 (x ++ x) (15 ∷ 14 ∷ 13 ∷ 12 ∷ 11 ∷ 10 ∷ 9 ∷ 8 ∷ 7 ∷ 6 ∷ 5 ∷ 4 ∷ 3 ∷ 2 ∷ 1 ∷ 0 ∷ []) in
+    let e : to_le_bytes w128 (le bs) ≡ bs = bytes_of_le bs is in
+    let word : of (to_le_bytes w128 (le bs)) ≡ reverse (to_le_bytes w128 (le bs)) = refl in
+    subst (λ (x : List ℕ). of x ≡ reverse x) e word

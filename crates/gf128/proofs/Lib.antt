@@ -6,7 +6,7 @@ mod ByGhash
 mod LaneWords
 mod Folds
 mod BitParts
-mod FourBlocks
+mod SumsAfter
 mod FourProducts
 mod Vectors
 mod Rows

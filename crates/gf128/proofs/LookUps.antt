@@ -1,19 +1,19 @@
 -- Look-ups in tables of sixteen bytes that are vectors.
 use Rattle.std.proofs.Common.{◌≡◌, ℕ, zero, suc, ◌+◌, ◌*◌, ◌/◌, ◌%◌, ◌<◌, Bool, true, ◌&&◌}
-use Rattle.std.proofs.Common.{◌||◌, ◌==◌, T, ltb, leb, List, get_or, length, replicate, bit_and, bit_xor}
+use Rattle.std.proofs.Common.{◌||◌, ◌==◌, T, ltb, leb, List, [], get_or, set, length, replicate, bit_and, bit_xor}
 use Rattle.std.proofs.Common.{refl, sym, ap, ap₂, subst, ◌∙◌, arith, rules, w8, inl, inr}
 use Rattle.std.proofs.Math.Nat.{zero-mul, one-mul}
 use Rattle.std.proofs.lemmas.Nat.{xor_of_8, and_mask}
 use Rattle.std.proofs.lemmas.Bool.{and_parts, eqb-true, cases_lt}
 use Rattle.std.proofs.lemmas.Grind.{same_number_lists}
-use Rattle.std.proofs.lemmas.List.{get_or-replicate, length-replicate}
+use Rattle.std.proofs.lemmas.List.{get_or-replicate, length-replicate, get_or-set_same, get_or-set_other}
 use Rattle.std.proofs.lemmas.Simd.{Each1-from_get_or, length-zip2, get_or-zip2, swz_l, SwzOk}
 use Rattle.std.proofs.lemmas.Simd.{SwzOk-from_Each1, length-swz_l, get_or-swz_l_below}
 use lib.Lanes.{zip2}
 use mathlib.Core.Path.{fun_ext}
 use Rattle.octets.specs.Bytes.{IsBlock, le}
 use Rattle.gf128.specs.Code.Words.{looked_up, mixed, IsBitsProduct, IsMoved, table_at, entry}
-use Rattle.gf128.specs.declared.tables.TheConstants.{EIGHTS, FOURS, TWOS, ONES}
+use Rattle.gf128.specs.declared.tables.TheConstants.{TWOS, ONES, FOURTHS, REMAINDERS}
 use Rattle.gf128.proofs.BitParts.{joined, product_low, two_bits_by}
 use Rattle.gf128.proofs.Rows.{row, row_at, length-row, row_block, le_row_xor}
 
@@ -113,14 +113,6 @@ all_below_at f (suc n) k h l = elim (cases_lt k n) [
 abbrev Masks : List ℕ → (ℕ → ℕ) → Type 0
 Masks m b = (n : ℕ) → n < 16 → get_or m n 0 ≡ 255 * b n
 
-eights_computed : all_below (λ n. get_or EIGHTS n 0 == 255 * (n / 4 / 2)) 16 ≡ true
-unfolding all_below
-eights_computed = refl
-
-fours_computed : all_below (λ n. get_or FOURS n 0 == 255 * (n / 4 % 2)) 16 ≡ true
-unfolding all_below
-fours_computed = refl
-
 twos_computed : all_below (λ n. get_or TWOS n 0 == 255 * (n % 4 / 2)) 16 ≡ true
 unfolding all_below
 twos_computed = refl
@@ -139,45 +131,115 @@ bit_masks zero v h l = and_mask v 0 ∙ omega (arith, zero-mul v)
 bit_masks (suc zero) v h l = and_mask v 8 ∙ omega (arith, one-mul v)
 bit_masks (suc (suc b)) v h l = absurd (omega arith)
 
--- byte j of a word in each lane, under a mask
-masked_lane : (x m : List ℕ) (b : ℕ → ℕ) (j n : ℕ) → IsBlock x → length m ≡ 16 → Masks m b → j < 16 → n < 16 → b n < 2
-    → get_or (zip2 bit_and (swz_l w8 16 x 0 (replicate 16 j)) m) n 0 ≡ b n * get_or x j 0
-masked_lane x m b j n is long masks lj ln small =
-    let at : get_or (replicate 16 j) n 0 ≡ j = get_or-replicate {A = ℕ} 16 n j 0 ln in
-    at_both bit_and (swz_l w8 16 x 0 (replicate 16 j)) m n (long_found x (replicate 16 j) (length-replicate 16 j)) long ln
-    ∙ ap₂ bit_and (found x (replicate 16 j) n (length-replicate 16 j) ln (omega arith) ∙ ap (λ i. get_or x i 0) at) (masks n ln)
+-- entry n of these constants is a fourth of n, or what remains
+fourths_computed : all_below (λ n. get_or FOURTHS n 0 == n / 4) 16 ≡ true
+unfolding all_below
+fourths_computed = refl
+
+remainders_computed : all_below (λ n. get_or REMAINDERS n 0 == n % 4) 16 ≡ true
+unfolding all_below
+remainders_computed = refl
+
+-- such a constant, with a number added to each entry
+abbrev pub offset : List ℕ → ℕ → List ℕ
+offset m s = zip2 (λ a b. (a + b) % 256) m (replicate 16 s)
+
+-- its entries
+offset_at : (m : List ℕ) (f : ℕ → ℕ) (s n : ℕ) → all_below (λ k. get_or m k 0 == f k) 16 ≡ true → length m ≡ 16 → n < 16
+    → f n + s < 16 → get_or (offset m s) n 0 ≡ s + f n
+offset_at m f s n test long l small =
+    let own : get_or m n 0 ≡ f n = eqb-true (get_or m n 0) (f n) (all_below_at (λ k. get_or m k 0 == f k) 16 n test l) in
+    at_splat (λ a b. (a + b) % 256) m s n long l ∙ ap (λ (x : ℕ). (x + s) % 256) own ∙ omega arith
+
+pub fourth_at : (s n : ℕ) → n < 16 → s < 13 → get_or (offset FOURTHS s) n 0 ≡ s + n / 4
+fourth_at s n l small = offset_at FOURTHS (λ k. k / 4) s n fourths_computed refl l (omega arith)
+
+pub remainder_at : (s n : ℕ) → n < 16 → s < 13 → get_or (offset REMAINDERS s) n 0 ≡ s + n % 4
+remainder_at s n l small = offset_at REMAINDERS (λ k. k % 4) s n remainders_computed refl l (omega arith)
+
+-- they are allowed as indices
+pub fourths_ok : (s : ℕ) → s < 13 → SwzOk w8 16 16 0 (offset FOURTHS s)
+fourths_ok s small =
+    places_ok (offset FOURTHS s) (long_splat (λ a b. (a + b) % 256) FOURTHS s refl)
+    (λ k l. omega (arith, fourth_at s k l small))
+
+pub remainders_ok : (s : ℕ) → s < 13 → SwzOk w8 16 16 0 (offset REMAINDERS s)
+remainders_ok s small =
+    places_ok (offset REMAINDERS s) (long_splat (λ a b. (a + b) % 256) REMAINDERS s refl)
+    (λ k l. omega (arith, remainder_at s k l small))
+
+-- a byte of a word for each lane, under a mask
+masked_lane : (x at m : List ℕ) (b : ℕ → ℕ) (j n : ℕ) → IsBlock x → length at ≡ 16 → get_or at n 0 ≡ j → length m ≡ 16 → Masks m b
+    → j < 16 → n < 16 → b n < 2 → get_or (zip2 bit_and (swz_l w8 16 x 0 at) m) n 0 ≡ b n * get_or x j 0
+masked_lane x at m b j n is lat here long masks lj ln small =
+    at_both bit_and (swz_l w8 16 x 0 at) m n (long_found x at lat) long ln
+    ∙ ap₂ bit_and (found x at n lat ln (omega arith) ∙ ap (λ i. get_or x i 0) here) (masks n ln)
     ∙ bit_masks (b n) (get_or x j 0) small (is.bytes j)
 
--- an index that is the same in all lanes is allowed
-pub same_place : (j : ℕ) → j < 16 → SwzOk w8 16 16 0 (replicate 16 j)
-same_place j l =
-    places_ok (replicate 16 j) (length-replicate 16 j)
-    (λ k h. let at : get_or (replicate 16 j) k 0 ≡ j = get_or-replicate {A = ℕ} 16 k j 0 h in omega arith)
-
--- the table that four masked vectors make
-pub mixed_lane : (a b c d : List ℕ) (j n : ℕ) → IsBlock a → IsBlock b → IsBlock c → IsBlock d → j < 16 → n < 16
-    → get_or (zip2 bit_xor (zip2 bit_xor (zip2 bit_and (swz_l w8 16 a 0 (replicate 16 j)) EIGHTS)
-    (zip2 bit_and (swz_l w8 16 b 0 (replicate 16 j)) FOURS))
-    (zip2 bit_xor (zip2 bit_and (swz_l w8 16 c 0 (replicate 16 j)) TWOS)
-    (zip2 bit_and (swz_l w8 16 d 0 (replicate 16 j)) ONES))) n 0
-    ≡ mixed n (get_or a j 0) (get_or b j 0) (get_or c j 0) (get_or d j 0)
-mixed_lane a b c d j n ha hb hc hd lj ln =
-    let lane : List ℕ → List ℕ → List ℕ = λ (x m : List ℕ). zip2 bit_and (swz_l w8 16 x 0 (replicate 16 j)) m in
-    let long : (x m : List ℕ) → length m ≡ 16 → length (lane x m) ≡ 16 = λ x m h.
-    long_both bit_and (swz_l w8 16 x 0 (replicate 16 j)) m (long_found x (replicate 16 j) (length-replicate 16 j)) h in
-    let le8 = long a EIGHTS refl in
-    let le4 = long b FOURS refl in
-    let le2 = long c TWOS refl in
-    let le1 = long d ONES refl in
-    at_both bit_xor (zip2 bit_xor (lane a EIGHTS) (lane b FOURS)) (zip2 bit_xor (lane c TWOS) (lane d ONES)) n
-    (long_both bit_xor (lane a EIGHTS) (lane b FOURS) le8 le4) (long_both bit_xor (lane c TWOS) (lane d ONES) le2 le1) ln
+-- the sums of bytes of two words, from byte s on
+pub pair_lane : (x y : List ℕ) (s n : ℕ) → IsBlock x → IsBlock y → s < 13 → n < 16
+    → get_or (zip2 bit_xor (zip2 bit_and (swz_l w8 16 x 0 (offset FOURTHS s)) TWOS) (zip2 bit_and (swz_l w8 16 y 0 (offset FOURTHS s)) ONES)) n 0
+    ≡ bit_xor (n % 4 / 2 * get_or x (s + n / 4) 0) (n % 4 % 2 * get_or y (s + n / 4) 0)
+pair_lane x y s n hx hy small l =
+    let at : List ℕ = offset FOURTHS s in
+    let long : length at ≡ 16 = long_splat (λ a b. (a + b) % 256) FOURTHS s refl in
+    let j : ℕ = s + n / 4 in
+    let here : get_or at n 0 ≡ j = fourth_at s n l small in
+    at_both bit_xor (zip2 bit_and (swz_l w8 16 x 0 at) TWOS) (zip2 bit_and (swz_l w8 16 y 0 at) ONES) n
+    (long_both bit_and (swz_l w8 16 x 0 at) TWOS (long_found x at long) refl)
+    (long_both bit_and (swz_l w8 16 y 0 at) ONES (long_found y at long) refl) l
     ∙ ap₂ bit_xor
-    (at_both bit_xor (lane a EIGHTS) (lane b FOURS) n le8 le4 ln
-    ∙ ap₂ bit_xor (masked_lane a EIGHTS (λ n. n / 4 / 2) j n ha refl (masked_by EIGHTS (λ n. n / 4 / 2) eights_computed) lj ln (omega arith))
-    (masked_lane b FOURS (λ n. n / 4 % 2) j n hb refl (masked_by FOURS (λ n. n / 4 % 2) fours_computed) lj ln (omega arith)))
-    (at_both bit_xor (lane c TWOS) (lane d ONES) n le2 le1 ln
-    ∙ ap₂ bit_xor (masked_lane c TWOS (λ n. n % 4 / 2) j n hc refl (masked_by TWOS (λ n. n % 4 / 2) twos_computed) lj ln (omega arith))
-    (masked_lane d ONES (λ n. n % 4 % 2) j n hd refl (masked_by ONES (λ n. n % 4 % 2) ones_computed) lj ln (omega arith)))
+    (masked_lane x at TWOS (λ n. n % 4 / 2) j n hx long here refl (masked_by TWOS (λ n. n % 4 / 2) twos_computed) (omega arith) l (omega arith))
+    (masked_lane y at ONES (λ n. n % 4 % 2) j n hy long here refl (masked_by ONES (λ n. n % 4 % 2) ones_computed) (omega arith) l (omega arith))
+
+-- the table that two such sums make, at byte s of them
+pub table_lane : (u v : List ℕ) (s n : ℕ) → s < 13 → n < 16
+    → get_or (zip2 bit_xor (swz_l w8 16 u 0 (offset FOURTHS s)) (swz_l w8 16 v 0 (offset REMAINDERS s))) n 0
+    ≡ bit_xor (get_or u (s + n / 4) 0) (get_or v (s + n % 4) 0)
+table_lane u v s n small l =
+    let p : List ℕ = offset FOURTHS s in
+    let q : List ℕ = offset REMAINDERS s in
+    let lp : length p ≡ 16 = long_splat (λ a b. (a + b) % 256) FOURTHS s refl in
+    let lq : length q ≡ 16 = long_splat (λ a b. (a + b) % 256) REMAINDERS s refl in
+    let ep : get_or p n 0 ≡ s + n / 4 = fourth_at s n l small in
+    let eq : get_or q n 0 ≡ s + n % 4 = remainder_at s n l small in
+    at_both bit_xor (swz_l w8 16 u 0 p) (swz_l w8 16 v 0 q) n (long_found u p lp) (long_found v q lq) l
+    ∙ ap₂ bit_xor (found u p n lp l (omega arith) ∙ ap (λ i. get_or u i 0) ep)
+    (found v q n lq l (omega arith) ∙ ap (λ i. get_or v i 0) eq)
+
+-- what u has for bytes of x and y: `pair_lane`
+abbrev pub PairSums : List ℕ → List ℕ → ℕ → List ℕ → Type 0
+PairSums x y g u = (k : ℕ) → k < 16 → get_or u k 0
+    ≡ bit_xor (k % 4 / 2 * get_or x (4 * g + k / 4) 0) (k % 4 % 2 * get_or y (4 * g + k / 4) 0)
+
+-- the sum for two bits q at byte t
+sum_at : (x y u : List ℕ) (g t q : ℕ) → PairSums x y g u → t < 4 → q < 4
+    → get_or u (4 * t + q) 0 ≡ bit_xor (q / 2 * get_or x (4 * g + t) 0) (q % 2 * get_or y (4 * g + t) 0)
+sum_at x y u g t q is lt lq =
+    let k : ℕ = 4 * t + q in
+    let place : 4 * g + k / 4 ≡ 4 * g + t = omega arith in
+    let upper : k % 4 / 2 ≡ q / 2 = omega arith in
+    let lower : k % 4 % 2 ≡ q % 2 = omega arith in
+    is k (omega arith) ∙ ap (λ j. bit_xor (k % 4 / 2 * get_or x j 0) (k % 4 % 2 * get_or y j 0)) place
+    ∙ ap₂ (λ (i j : ℕ). bit_xor (i * get_or x (4 * g + t) 0) (j * get_or y (4 * g + t) 0)) upper lower
+
+-- a table made of such sums mixes the bytes of four words
+pub mixed_lane : (a b c d u v r : List ℕ) (g t n : ℕ) → PairSums a b g u → PairSums c d g v → t < 4 → n < 16
+    → get_or r n 0 ≡ bit_xor (get_or u (4 * t + n / 4) 0) (get_or v (4 * t + n % 4) 0)
+    → get_or r n 0 ≡ mixed n (get_or a (4 * g + t) 0) (get_or b (4 * g + t) 0) (get_or c (4 * g + t) 0) (get_or d (4 * g + t) 0)
+mixed_lane a b c d u v r g t n hu hv lt ln is =
+    is ∙ ap₂ bit_xor (sum_at a b u g t (n / 4) hu lt (omega arith)) (sum_at c d v g t (n % 4) hv lt (omega arith))
+
+-- a table is written after the first j
+pub one_table : (t : List (List ℕ)) (r : List ℕ) (j k n : ℕ) (f : ℕ → ℕ) → length t ≡ 16 → j < 16 → k < j + 1
+    → (k < j → get_or (table_at t k) n 0 ≡ f k) → get_or r n 0 ≡ f j → get_or (table_at (set t j r) k) n 0 ≡ f k
+one_table t r j k n f long l lk before here = elim (cases_lt k j) [
+  | inl h ↦ ap (λ (x : List ℕ). get_or x n 0) (get_or-set_other t j k r [] (λ e. absurd (omega (arith, e, h)))) ∙ before h
+  | inr h ↦
+      let same : j ≡ k = omega arith in
+      ap (λ (i : ℕ). get_or (table_at (set t j r) i) n 0) (sym same)
+      ∙ ap (λ (x : List ℕ). get_or x n 0) (get_or-set_same t j r [] (omega arith)) ∙ here ∙ ap f same
+]
 
 -- a bit times a byte is a byte
 bit_times_byte : (b v : ℕ) → b < 2 → v < 256 → b * v < 256

@@ -160,6 +160,65 @@ moved_up r c e at small =
     ∙ ap₂ (λ (x y : ℕ). x * 2 ^ 64 + y) upper (xor_zero_r q0) in
     all ∙ omega (arith, split, first.0, second.0)
 
+-- a number that is moved up by s places and then down by s + i is moved down by i
+pub moved_back : (n s i k : ℕ) → s + i ≡ k → n * 2 ^ s / 2 ^ k ≡ n / 2 ^ i
+moved_back n s i k at =
+    ap (λ (j : ℕ). n * 2 ^ s / 2 ^ j) (sym at) ∙ sym (shr-shr (n * 2 ^ s) s i) ∙ ap (λ (x : ℕ). x / 2 ^ i) (shl-shr n s)
+
+-- a word shifted down: the lanes are shifted down, and the lower one takes what the upper one loses
+pub shifted_is : (r c e : ℕ) → c + e ≡ 64 → r < 2 ^ 128
+    → bit_xor (lanes_up c (r / 2 ^ 64)) (lanes_down e r) ≡ r / 2 ^ e
+shifted_is r c e at small =
+    let low : ℕ = r % 2 ^ 64 in
+    let high : ℕ = r / 2 ^ 64 in
+    let q0 : ℕ = low * 2 ^ c % 2 ^ 64 in
+    let q1 : ℕ = high * 2 ^ c % 2 ^ 64 in
+    let d : ℕ = lanes_down e r in
+    let own : high % 2 ^ 64 ≡ high = omega arith in
+    let none : high / 2 ^ 64 ≡ 0 = omega arith in
+    let one_lane : lanes_up c high ≡ q1 =
+    ap₂ (λ (x y : ℕ). x * 2 ^ c % 2 ^ 64 + 2 ^ 64 * (y * 2 ^ c % 2 ^ 64)) own none
+    ∙ ap (λ (x : ℕ). q1 + 2 ^ 64 * (x % 2 ^ 64)) (zero-mul (2 ^ c)) ∙ omega arith in
+    let l0 : q0 < 2 ^ 64 = omega arith in
+    let up_is : lanes_up c r ≡ q1 * 2 ^ 64 + q0 = omega arith in
+    let above : lanes_up c r / 2 ^ 64 ≡ q1 = omega (arith, up_is, l0) in
+    ap₂ bit_xor (one_lane ∙ sym above) (sym (shl-shr d 64))
+    ∙ sym (xor_shr (lanes_up c r) (d * 2 ^ 64) 64) ∙ ap (λ (x : ℕ). x / 2 ^ 64) (moved_up r c e at small) ∙ moved_back r c e 64 at
+
+-- what falls out of a word that is shifted down by less than a lane, at the top of a word
+pub fallen_out : (n c : ℕ) → n < 2 ^ 128 → lanes_up c n * 2 ^ 64 % 2 ^ 128 ≡ n * 2 ^ (64 + c) % 2 ^ 128
+fallen_out n c small =
+    let low : ℕ = n % 2 ^ 64 in
+    let high : ℕ = n / 2 ^ 64 in
+    let whole : n ≡ high * 2 ^ 64 + low = omega arith in
+    let split : n * 2 ^ c ≡ high * 2 ^ c * 2 ^ 64 + low * 2 ^ c =
+    ap (λ (x : ℕ). x * 2 ^ c) whole ∙ add-mul (high * 2 ^ 64) low (2 ^ c)
+    ∙ ap (λ (x : ℕ). x + low * 2 ^ c) (mul_assoc high (2 ^ 64) (2 ^ c) ∙ ap (λ (x : ℕ). high * x) (mul_comm (2 ^ 64) (2 ^ c))
+    ∙ sym (mul_assoc high (2 ^ c) (2 ^ 64))) in
+    let all : n * 2 ^ (64 + c) ≡ n * 2 ^ c * 2 ^ 64 =
+    ap (λ (x : ℕ). n * x) (pow-add 2 64 c ∙ mul_comm (2 ^ 64) (2 ^ c)) ∙ sym (mul_assoc n (2 ^ c) (2 ^ 64)) in
+    omega (arith, split, all)
+
+-- the lower lane in the place of the upper one
+pub lane_above : (bs : List ℕ) → IsBlock bs → digits_l 256 16 (number_l (2 ^ 64) (0 ∷ number_l 256 bs % 2 ^ 64 ∷ []))
+    ≡ to_le_bytes w128 (le bs * 2 ^ 64 % 2 ^ 128)
+lane_above bs is =
+    let n : ℕ = le bs in
+    let small : n < 2 ^ 128 = le_block bs is in
+    let number : 0 + 2 ^ 64 * (n % 2 ^ 64) ≡ n * 2 ^ 64 % 2 ^ 128 = omega arith in
+    ap (λ (x : ℕ). digits_l 256 16 (number_l (2 ^ 64) (0 ∷ x % 2 ^ 64 ∷ []))) (number_of bs)
+    ∙ two_lanes 0 (n % 2 ^ 64) (omega arith) (omega arith) ∙ ap (to_le_bytes w128) number
+
+-- the upper lane in the place of the lower one
+pub lane_below : (bs : List ℕ) → IsBlock bs → digits_l 256 16 (number_l (2 ^ 64) (number_l 256 bs / 2 ^ 64 % 2 ^ 64 ∷ 0 ∷ []))
+    ≡ to_le_bytes w128 (le bs / 2 ^ 64)
+lane_below bs is =
+    let n : ℕ = le bs in
+    let small : n < 2 ^ 128 = le_block bs is in
+    let number : n / 2 ^ 64 % 2 ^ 64 + 2 ^ 64 * 0 ≡ n / 2 ^ 64 = omega arith in
+    ap (λ (x : ℕ). digits_l 256 16 (number_l (2 ^ 64) (x / 2 ^ 64 % 2 ^ 64 ∷ 0 ∷ []))) (number_of bs)
+    ∙ two_lanes (n / 2 ^ 64 % 2 ^ 64) 0 (omega arith) (omega arith) ∙ ap (to_le_bytes w128) number
+
 -- ---- three words as one number
 
 -- a word that is moved by less than a lane

@@ -1,5 +1,5 @@
 -- Sixteen words, each moved up by one byte more than the one before it, as one number of 256 bits.
-use Rattle.std.proofs.Common.{◌≡◌, ℕ, zero, suc, ◌+◌, ◌-◌, ◌*◌, ◌^◌, ◌<◌, ◌≤◌, false}
+use Rattle.std.proofs.Common.{◌≡◌, ℕ, zero, suc, ◌+◌, ◌-◌, ◌*◌, ◌^◌, ◌<◌, ◌≤◌, Bool, false, List, ◌++◌, replicate}
 use Rattle.std.proofs.Common.{bit_xor, inl, inr, refl, sym, ap, ap₂, ◌∙◌, arith}
 use mathlib.Core.Path.{fun_ext}
 use Rattle.std.proofs.lemmas.Bool.{cases_lt}
@@ -9,11 +9,13 @@ use Rattle.octets.specs.Bits.{bit}
 use Rattle.octets.specs.Polynomial.{coefficient, plus}
 use Rattle.octets.proofs.BitFacts.{bit_of_xor, bit_of_zero}
 use Rattle.octets.proofs.Sequence.{Sequence, sum_of, plus_comm}
-use Rattle.octets.proofs.Reversal.{raised, raised_low, raised_high}
-use Rattle.gf128.specs.Code.Words.{of_bits, of_word}
+use Rattle.octets.proofs.Reversal.{raised, raised_low, raised_high, coefficient_below}
+use Rattle.octets.proofs.Horner.{residue_same}
+use Rattle.gf128.specs.Ghash.{ghash_modulus}
+use Rattle.gf128.specs.Code.Words.{of_bits, of_word, folded_wide, IsMoved}
 use Rattle.gf128.proofs.WordLemmas.{of_word_at, of_word_past}
 use Rattle.gf128.proofs.BitParts.{bit_above, bit_low, bit_high, of_bits_at, of_bits_past}
-use Rattle.gf128.proofs.Folds.{raised_sum}
+use Rattle.gf128.proofs.Folds.{raised_sum, wide_folded_at}
 use Rattle.gf128.proofs.Rows.{horner_of, raised_none, raised_twice}
 
 -- the first q words, word j moved up by j + 1 bytes
@@ -36,7 +38,7 @@ placed_more r j n w before after s held is all e at =
     ∙ ap (placed r) up
 
 -- a number moved up has no bit below
-moved_low : (n s j : ℕ) → j < s → bit (n * 2 ^ s) j ≡ false
+pub moved_low : (n s j : ℕ) → j < s → bit (n * 2 ^ s) j ≡ false
 moved_low n s j l =
     let whole : n * 2 ^ s ≡ n * 2 ^ s + 0 = omega arith in
     ap (λ (x : ℕ). bit x j) whole ∙ bit_low n s 0 j l ∙ bit_of_zero j
@@ -55,12 +57,10 @@ of_bits_xor w a b = fun_ext (λ k. elim (cases_lt k w) [
   | inr l ↦ of_bits_past w (bit_xor a b) k l ∙ sym (ap₂ plus (of_bits_past w a k l) (of_bits_past w b k l))
 ])
 
--- a word that is moved up by q + 1 bytes is the word times a power of x
-moved_word : (n q : ℕ) → q < 16 → n < 2 ^ 128 → coefficient (of_bits 256 (n * 2 ^ (8 * q + 8)))
-    ≡ raised (8 * (16 - suc q)) (coefficient (of_word n))
-moved_word n q l small = fun_ext (λ k.
-    let s : ℕ = 8 * q + 8 in
-    let d : ℕ = 8 * (16 - suc q) in
+-- a word that is moved up by s places is the word times a power of x
+pub moved_word : (n s d : ℕ) → s + d ≡ 128 → n < 2 ^ 128 → coefficient (of_bits 256 (n * 2 ^ s))
+    ≡ raised d (coefficient (of_word n))
+moved_word n s d at small = fun_ext (λ k.
     elim (cases_lt k d) [
       | inl h ↦
           of_bits_at 256 (n * 2 ^ s) k (omega arith) ∙ moved_high n s (255 - k) (omega arith)
@@ -68,9 +68,9 @@ moved_word n q l small = fun_ext (λ k.
       | inr h ↦
           elim (cases_lt (k - d) 128) [
             | inl r ↦
-                let at : 255 - k - s ≡ 127 - (k - d) = omega arith in
+                let same : 255 - k - s ≡ 127 - (k - d) = omega arith in
                 of_bits_at 256 (n * 2 ^ s) k (omega arith) ∙ moved_high n s (255 - k) (omega arith)
-                ∙ ap (bit n) at ∙ sym (of_word_at n (k - d) r)
+                ∙ ap (bit n) same ∙ sym (of_word_at n (k - d) r)
             | inr r ↦ elim (cases_lt k 256) [
               | inl t ↦ of_bits_at 256 (n * 2 ^ s) k t ∙ moved_low n s (255 - k) (omega arith)
               | inr t ↦ of_bits_past 256 (n * 2 ^ s) k t
@@ -98,7 +98,7 @@ placed_sum r (suc q) l small =
     let word : Sequence = coefficient (of_word (r q)) in
     of_bits_xor 256 (placed r q) (r q * 2 ^ (8 * q + 8))
     ∙ ap₂ sum_of (placed_sum r q (omega arith) small ∙ ap (λ (i : ℕ). raised i before) more ∙ sym (raised_twice d 8 before))
-    (moved_word (r q) q (omega arith) (small q))
+    (moved_word (r q) (8 * q + 8) d (omega arith) (small q))
     ∙ sym (raised_sum d (raised 8 before) word)
     ∙ ap (raised d) (fun_ext (λ k. plus_comm (raised 8 before k) (word k)))
 
@@ -118,3 +118,14 @@ placed_lt r (suc q) l small =
     let fits : r q * 2 ^ (8 * q + 8) < 2 ^ (128 + (8 * q + 8)) = shl_below (r q) 128 (8 * q + 8) (small q) in
     let room : 2 ^ (128 + (8 * q + 8)) ≤ 2 ^ 256 = pow-le-pow_right {n = 2} (omega arith) {i = 128 + (8 * q + 8)} {j = 256} (omega arith) in
     xor_lt 256 (placed r q) (r q * 2 ^ (8 * q + 8)) (placed_lt r q (omega arith) small) (omega arith)
+
+-- a word that is moved up by 128 - i places and reduced is x^i times the word
+pub moved_folded : (n s i : ℕ) → s + i ≡ 128 → 7 ≤ s → n < 2 ^ 128 → IsMoved i n (folded_wide (n * 2 ^ s))
+moved_folded n s i at room small k =
+    let m : List Bool = ghash_modulus in
+    let fits : n * 2 ^ s < 2 ^ (128 + s) = shl_below n 128 s small in
+    let within : 2 ^ (128 + s) ≤ 2 ^ 256 = pow-le-pow_right {n = 2} (omega arith) {i = 128 + s} {j = 256} (omega arith) in
+    let same : coefficient (of_bits 256 (n * 2 ^ s)) ≡ coefficient (replicate i false ++ of_word n) =
+    moved_word n s i at small ∙ sym (fun_ext (coefficient_below i (of_word n))) in
+    ap (λ f. f k) (wide_folded_at (n * 2 ^ s) (omega (arith, fits, within)) (λ j l. moved_low n s j (omega arith))
+    ∙ residue_same m (of_bits 256 (n * 2 ^ s)) (replicate i false ++ of_word n) refl same)

@@ -15,8 +15,8 @@ use Rattle.octets.proofs.Blocks.{block_at-append}
 use Rattle.gf128.specs.Ghash.{ghash_modulus, ghash_sum, ghash, GhashIsTheOnly}
 use Rattle.gf128.specs.Orders.{Order, Straight, Reversed, Serves, reading, block_sum}
 use Rattle.gf128.specs.Polyval.{IsMulX}
-use Rattle.gf128.specs.Code.Words.{of_word, IsWordProduct, IsFourProducts}
-use Rattle.gf128.proofs.FourProducts.{product_of, product_of_is, four_steps, horner_more}
+use Rattle.gf128.specs.Code.Words.{of_word, IsWordProduct}
+use Rattle.gf128.proofs.FourProducts.{horner_more}
 use Rattle.gf128.proofs.WordLemmas.{of_word_zero}
 
 -- sums of equal terms are equal
@@ -84,22 +84,6 @@ pub block_sum_more : (o : Order) (k m : List ℕ) (s x z n : ℕ) → Agree (of_
 unfolding block_sum
 block_sum_more o k m s x z n held ex is =
     horner_more (λ i. reading o (block_at m i)) k s x z n held ex is
-
--- if s is the sum over n blocks, and z the four products of s and the next four blocks, z is the sum over n + 4 blocks
-pub block_sum_four : (o : Order) (k m : List ℕ) (s a b c d z n : ℕ) → Agree (of_word s) (block_sum o k m n)
-    → of_word a ≡ reading o (block_at m n) → of_word b ≡ reading o (block_at m (suc n))
-    → of_word c ≡ reading o (block_at m (suc (suc n))) → of_word d ≡ reading o (block_at m (suc (suc (suc n))))
-    → IsFourProducts (bit_xor s a) b c d k z
-    → Agree (of_word z) (block_sum o k m (suc (suc (suc (suc n)))))
-block_sum_four o k m s a b c d z n held ea eb ec ed is =
-    let p : ℕ = bit_xor s a in
-    let t : ℕ = product_of p k in
-    let u : ℕ = product_of (bit_xor t b) k in
-    let w : ℕ = product_of (bit_xor u c) k in
-    block_sum_more o k m w d z (suc (suc (suc n)))
-    (block_sum_more o k m u c w (suc (suc n)) (block_sum_more o k m t b u (suc n)
-    (block_sum_more o k m s a t n held ea (product_of_is p k)) eb (product_of_is (bit_xor t b) k))
-    ec (product_of_is (bit_xor u c) k)) ed (four_steps p b c d z k is)
 
 -- the sum over no blocks is 0
 pub block_sum_none : (o : Order) (k m : List ℕ) → Agree (of_word 0) (block_sum o k m 0)

@@ -1,11 +1,11 @@
 -- GHASH and POLYVAL as one sum in GHASH's field. They differ in the order in which they read the bytes of a block.
-use Rattle.std.specs.Prelude.{◌≡◌, ℕ, ◌-◌, Bool, List, [], reverse, get_or, bit_xor}
+use Rattle.std.specs.Prelude.{◌≡◌, ℕ, zero, suc, ◌-◌, Bool, List, [], reverse, length, get_or}
 use Rattle.octets.specs.Bytes.{block_at, IsBlock}
 use Rattle.octets.specs.Bits.{g}
-use Rattle.octets.specs.Polynomial.{product, power, sum_of_first, residue}
+use Rattle.octets.specs.Polynomial.{Agree, sum, product, power, sum_of_first, residue}
 use Rattle.gf128.specs.Ghash.{ghash_modulus, ghash}
 use Rattle.gf128.specs.Polyval.{IsReversedMulX, polyval}
-use Rattle.gf128.specs.Code.Words.{of_word, IsFourProducts}
+use Rattle.gf128.specs.Code.Words.{of_word}
 
 -- GHASH reads the bytes of a block from the first to the last, POLYVAL from the last to the first
 pub data Order : Type 0 where
@@ -32,8 +32,12 @@ unfoldable pub block_sum : Order → List ℕ → List ℕ → ℕ → List Bool
 block_sum o k m n = sum_of_first n
     (λ i. residue ghash_modulus (product (reading o (block_at m i)) (power (g k) (n - i))))
 
--- the word z is the sum of the words of four blocks times y^4, y^3, y^2 and y, where s is added to the first word
-abbrev pub IsFourBlocks : Order → ℕ → List (List ℕ) → List ℕ → ℕ → Type 0
-IsFourBlocks o s blocks y z = (a b c d : ℕ) → of_word a ≡ reading o (get_or blocks 0 [])
-    → of_word b ≡ reading o (get_or blocks 1 []) → of_word c ≡ reading o (get_or blocks 2 [])
-    → of_word d ≡ reading o (get_or blocks 3 []) → IsFourProducts (bit_xor s a) b c d y z
+-- Y_n of SP 800-38D, 6.4, where Y_0 is s and X_1 .. X_n are the first n blocks: Y_i is (Y_(i-1) + X_i) * K
+unfoldable pub sum_after : Order → List ℕ → List Bool → List (List ℕ) → ℕ → List Bool
+sum_after o k s blocks zero = s
+sum_after o k s blocks (suc n) =
+    residue ghash_modulus (product (sum (sum_after o k s blocks n) (reading o (get_or blocks n []))) (g k))
+
+-- if the word s is the sum before the blocks, the word z is the sum after them
+abbrev pub IsSumAfter : Order → List ℕ → ℕ → List (List ℕ) → ℕ → Type 0
+IsSumAfter o k s blocks z = Agree (of_word z) (sum_after o k (of_word s) blocks (length blocks))

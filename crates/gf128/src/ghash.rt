@@ -5,7 +5,7 @@ ghost use Rattle.gf128.specs.Orders.{Straight};
 
 use crate::hash::BlockHash;
 use crate::hash_order::HashOrder;
-use crate::polynomial_word::{block_of, word_of};
+use crate::polynomial_word::{block_of, word_bytes, word_of};
 use octets::Block;
 
 /// The order of GHASH: the first byte of a block is the highest byte of its word.
@@ -17,6 +17,11 @@ impl HashOrder for GhashOrder {
     #[inline(always)]
     fn word_of(block: &[u8; 16]) -> u128 {
         word_of(block)
+    }
+
+    #[inline(always)]
+    fn word_bytes(block: &[u8; 16]) -> [u8; 16] {
+        word_bytes(block)
     }
 
     #[inline(always)]

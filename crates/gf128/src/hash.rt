@@ -25,15 +25,7 @@ impl<M: Multiply, O: HashOrder> Absorb for BlockSum<M, O> {
 
     fn absorb(&mut self, blocks: &[u8]) {
         let (whole, _) = blocks.as_chunks::<16>();
-        let (fours, rest) = whole.as_chunks::<4>();
-        let mut sum = self.sum;
-        'fours: for four in fours {
-            sum = self.multiplier.times_blocks::<O>(sum, four);
-        }
-        'taken: for block in rest {
-            sum = self.multiplier.times_word(sum ^ O::word_of(block));
-        }
-        self.sum = sum;
+        self.sum = self.multiplier.times_all::<O>(self.sum, whole);
     }
 }
 

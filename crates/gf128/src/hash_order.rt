@@ -2,7 +2,7 @@
 //! last (RFC 8452, 3).
 
 ghost use Rattle.std.specs.Prelude.{◌≡◌, ℕ, ◌*◌, ◌/◌, ◌^◌, ◌<◌, List, length};
-ghost use Rattle.octets.specs.Bytes.{IsBlock};
+ghost use Rattle.octets.specs.Bytes.{IsBlock, le};
 ghost use Rattle.octets.specs.Polynomial.{Agree};
 ghost use Rattle.gf128.specs.Code.Words.{of_bits, of_word};
 ghost use Rattle.gf128.specs.Orders.{Order, reading, Serves, hash_by, block_sum};
@@ -16,6 +16,10 @@ pub trait HashOrder {
     /// Returns the word of a block.
     fn word_of(block: &[u8; 16]) -> u128
         ensures { of_word result ≡ reading order block.now };
+
+    /// Returns the bytes of the word of a block, the least significant one first.
+    fn word_bytes(block: &[u8; 16]) -> [u8; 16]
+        ensures { of_word (le result) ≡ reading order block.now };
 
     /// Returns the hash of blocks from their sum, which is a word.
     fn hash_of(sum: u128) -> Block

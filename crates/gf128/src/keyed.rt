@@ -3,8 +3,8 @@
 ghost use Rattle.std.specs.Prelude.{◌≡◌, ℕ, List, replicate};
 ghost use Rattle.octets.specs.Bytes.{IsBlock};
 ghost use Rattle.gf128.specs.Ghash.{IsProduct};
-ghost use Rattle.gf128.specs.Code.Words.{IsFourProducts, IsWordProduct};
-ghost use Rattle.gf128.specs.Orders.{IsFourBlocks};
+ghost use Rattle.gf128.specs.Code.Words.{IsWordProduct};
+ghost use Rattle.gf128.specs.Orders.{IsSumAfter};
 
 use crate::hash_order::HashOrder;
 use crate::polynomial_word::{block_of, word_of};
@@ -30,28 +30,15 @@ pub trait Multiply: Drop {
         word_of(product.bytes())
     }
 
-    /// Returns the sum of `a` times the fourth power of the key, `b` times its third, `c` times its second, and `d` times the
-    /// key.
-    fn times_four(&self, a: u128, b: u128, c: u128, d: u128) -> u128
-        ensures { IsFourProducts a b c d (key_bytes self.now) result }
+    /// Returns the sum after these blocks, as `O` reads them: each is added to the sum, which is then multiplied by the key.
+    fn times_all<O: HashOrder>(&self, sum: u128, blocks: &[[u8; 16]]) -> u128
+        ensures { IsSumAfter O.order (key_bytes self.now) sum blocks.now result }
     {
-        let first = self.times_word(a);
-        let second = self.times_word(first ^ b);
-        let third = self.times_word(second ^ c);
-        self.times_word(third ^ d)
-    }
-
-    /// Returns [`Multiply::times_four`] of the words of four blocks, as `O` reads them, with `sum` added to the first.
-    fn times_blocks<O: HashOrder>(&self, sum: u128, blocks: &[[u8; 16]; 4]) -> u128
-        ensures { IsFourBlocks O.order sum blocks.now (key_bytes self.now) result }
-    {
-        let first = sum ^ O::word_of(&blocks[0]);
-        self.times_four(
-            first,
-            O::word_of(&blocks[1]),
-            O::word_of(&blocks[2]),
-            O::word_of(&blocks[3]),
-        )
+        let mut total = sum;
+        'taken: for block in blocks {
+            total = self.times_word(total ^ O::word_of(block));
+        }
+        total
     }
 }
 
@@ -91,12 +78,7 @@ impl<M: Multiply> Multiply for &M {
     }
 
     #[inline(always)]
-    fn times_four(&self, a: u128, b: u128, c: u128, d: u128) -> u128 {
-        (**self).times_four(a, b, c, d)
-    }
-
-    #[inline(always)]
-    fn times_blocks<O: HashOrder>(&self, sum: u128, blocks: &[[u8; 16]; 4]) -> u128 {
-        (**self).times_blocks::<O>(sum, blocks)
+    fn times_all<O: HashOrder>(&self, sum: u128, blocks: &[[u8; 16]]) -> u128 {
+        (**self).times_all::<O>(sum, blocks)
     }
 }

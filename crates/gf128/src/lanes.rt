@@ -2,7 +2,7 @@
 
 ghost use Rattle.std.specs.Prelude.{◌≡◌, ◌+◌, ◌*◌, ◌/◌, ◌%◌, ◌^◌, ◌<◌, bit_xor};
 ghost use Rattle.octets.specs.Bytes.{IsBlock, le};
-ghost use Rattle.gf128.specs.Code.Words.{lanes_up, lanes_down};
+ghost use Rattle.gf128.specs.Code.Words.{lanes_up, lanes_down, IsMoved};
 
 use octets::le_bytes;
 use std::simd::prelude::*;
@@ -74,5 +74,65 @@ impl Lanes {
         Lanes {
             bytes: (u64x2::from_le_bytes(self.bytes) >> u64x2::splat(count)).to_le_bytes(),
         }
+    }
+
+    // The word moved up by 64 places. What it loses is gone.
+    #[inline(always)]
+    pub(crate) fn lane_up(self) -> Lanes
+        ensures { le result.bytes ≡ le self.bytes * 2 ^ 64 % 2 ^ 128 }
+    {
+        Lanes {
+            bytes: u64x2::from_le_bytes(self.bytes)
+                .shuffle(u64x2::splat(0), [2, 0])
+                .to_le_bytes(),
+        }
+    }
+
+    // The word shifted down by 64 places.
+    #[inline(always)]
+    pub(crate) fn lane_down(self) -> Lanes
+        ensures { le result.bytes ≡ le self.bytes / 2 ^ 64 }
+    {
+        Lanes {
+            bytes: u64x2::from_le_bytes(self.bytes)
+                .shuffle(u64x2::splat(0), [1, 2])
+                .to_le_bytes(),
+        }
+    }
+
+    // The word shifted down by `count` places, fewer than 64: what the upper half loses goes to the lower one.
+    #[inline(always)]
+    pub(crate) fn shifted_down(self, count: u64) -> Lanes
+        requires some { 0 < count }
+        requires within { count < 64 }
+        ensures { le result.bytes ≡ le self.bytes / 2 ^ count }
+    {
+        let carried = self.lane_down().up(64 - count);
+        carried.xor(self.down(count))
+    }
+
+    // The word times 1 + x + x^2 + x^7, without what comes to the places below it.
+    #[inline(always)]
+    pub(crate) fn folded(self) -> Lanes
+        ensures { let f = le self.bytes in le result.bytes ≡ bit_xor f (bit_xor (f / 2 ^ 1) (bit_xor (f / 2 ^ 2) (f / 2 ^ 7))) }
+    {
+        let by_x = self.shifted_down(1);
+        let by_x2 = self.shifted_down(2);
+        let by_x7 = self.shifted_down(7);
+        let two = by_x2.xor(by_x7);
+        let three = by_x.xor(two);
+        self.xor(three)
+    }
+
+    // The word times x^`count` in GHASH's field, fewer than 8: what falls out below is folded in. It is left to LLVM to inline
+    // this: were it always done, the body that makes all tables would be too long to be inlined itself, and they were copied.
+    pub(crate) fn times_power(self, count: u64) -> Lanes
+        requires some { 0 < count }
+        requires within { count < 8 }
+        ensures { IsMoved count (le self.bytes) (le result.bytes) }
+    {
+        let out = self.up(64 - count).lane_up();
+        let fold = out.folded();
+        self.shifted_down(count).xor(fold)
     }
 }

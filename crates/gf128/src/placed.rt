@@ -74,12 +74,15 @@ impl Placed {
 
     // XORs in a word that is moved up by 128 places, and reduces the number.
     #[inline(always)]
-    pub(crate) fn reduce_with(self, word: Lanes) -> u128
-        ensures { result ≡ folded_wide (bit_xor (total (le self.low.bytes) (le self.middle.bytes) (le self.high.bytes)) (le word.bytes * 2 ^ 128)) }
+    pub(crate) fn reduce_with(self, word: Lanes) -> Lanes
+        ensures { le result.bytes ≡ folded_wide (bit_xor (total (le self.low.bytes) (le self.middle.bytes) (le self.high.bytes)) (le word.bytes * 2 ^ 128)) }
     {
-        let middle = self.middle.word();
-        let low = self.low.word() ^ (middle << 64);
-        let high = (middle >> 64) ^ self.high.xor(word).word();
-        high ^ (low ^ ((low >> 1) ^ ((low >> 2) ^ (low >> 7))))
+        let above = self.middle.lane_up();
+        let below = self.middle.lane_down();
+        let low = self.low.xor(above);
+        let last = self.high.xor(word);
+        let high = below.xor(last);
+        let fold = low.folded();
+        high.xor(fold)
     }
 }

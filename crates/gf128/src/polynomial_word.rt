@@ -1,11 +1,13 @@
 //! Words of 128 bits as polynomials of GHASH's field (SP 800-38D, 6.3): the bit of weight 2^127 is the coefficient of x^0.
 
 ghost use Rattle.std.specs.Prelude.{◌≡◌, reverse};
-ghost use Rattle.octets.specs.Bytes.{IsBlock};
+ghost use Rattle.octets.specs.Bytes.{IsBlock, le};
 ghost use Rattle.octets.specs.Bits.{g, v};
-ghost use Rattle.gf128.specs.Code.Words.{of_word, times_x, IsMoved};
+ghost use Rattle.gf128.specs.Code.Words.{of_word, times_x};
 
+use crate::lanes::Lanes;
 use octets::{Block, be_bytes, le_bytes};
+use std::simd::prelude::*;
 
 // The coefficients of the modulus below x^128.
 const REDUCTION: u128 = 0xe100_0000_0000_0000_0000_0000_0000_0000;
@@ -16,6 +18,25 @@ pub(crate) fn word_of(block: &[u8; 16]) -> u128
     ensures { of_word result ≡ g block.now }
 {
     u128::from_be_bytes(*block)
+}
+
+// The bytes of the word of a block, the least significant one first. They are reversed in a vector, so that a block that is
+// read into one stays out of the general registers.
+#[inline(always)]
+pub(crate) fn word_bytes(block: &[u8; 16]) -> [u8; 16]
+    ensures { of_word (le result) ≡ g block.now }
+{
+    let lanes = Lanes::of_bytes(*block);
+    lanes.bytes.reverse().to_array()
+}
+
+// The bytes of the word of the block with its bytes in reverse order, the least significant one first.
+#[inline(always)]
+pub(crate) fn reversed_word_bytes(block: &[u8; 16]) -> [u8; 16]
+    ensures { of_word (le result) ≡ g (reverse block.now) }
+{
+    let lanes = Lanes::of_bytes(*block);
+    lanes.bytes.to_array()
 }
 
 // The word of the block with its bytes in reverse order.
@@ -50,22 +71,4 @@ pub(crate) fn times_x(word: u128) -> u128
     ensures { result ≡ times_x word }
 {
     (word >> 1) ^ (word % 2 * REDUCTION)
-}
-
-// Multiplies a word by x^2.
-#[inline(always)]
-fn times_x2(word: u128) -> u128
-    ensures { IsMoved 2 word result }
-{
-    let by_x = times_x(word);
-    times_x(by_x)
-}
-
-// Multiplies a word by x^4.
-#[inline(always)]
-pub(crate) fn times_x4(word: u128) -> u128
-    ensures { IsMoved 4 word result }
-{
-    let by_x2 = times_x2(word);
-    times_x2(by_x2)
 }

@@ -7,7 +7,9 @@ ghost use Rattle.gf128.specs.Polyval.{DotIsTheOnly, PolyvalIsTheOnly, PolyvalByG
 
 use crate::hash::BlockHash;
 use crate::hash_order::HashOrder;
-use crate::polynomial_word::{block_of, reversed_block_of, reversed_word_of, times_x};
+use crate::polynomial_word::{
+    block_of, reversed_block_of, reversed_word_bytes, reversed_word_of, times_x,
+};
 use octets::Block;
 
 /// Returns the key under which GHASH's product computes POLYVAL's: mulX of the reversed key (RFC 8452, appendix A). A
@@ -30,6 +32,11 @@ impl HashOrder for PolyvalOrder {
     #[inline(always)]
     fn word_of(block: &[u8; 16]) -> u128 {
         reversed_word_of(block)
+    }
+
+    #[inline(always)]
+    fn word_bytes(block: &[u8; 16]) -> [u8; 16] {
+        reversed_word_bytes(block)
     }
 
     #[inline(always)]

@@ -1,16 +1,23 @@
 //! Multiplication in GHASH's field (SP 800-38D, 6.3) by 32 tables of 16 bytes, which hold 32 multiples of the key.
 
-ghost use Rattle.std.specs.Prelude.{◌≡◌};
+ghost use Rattle.std.specs.Prelude.{◌≡◌, ℕ};
 ghost use Rattle.std.specs.Int.{w128, to_be_bytes};
-ghost use Rattle.gf128.specs.Code.Words.{of_word, entry, AreMultiples};
+ghost use Rattle.gf128.specs.Code.Words.{of_word, entry, AreMultiples, IsWordProduct};
 ghost use Rattle.gf128.specs.Code.PlainMultiples.{HasMultiples};
+ghost use Rattle.gf128.specs.Orders.{IsSumAfter};
 
+use crate::hash_order::HashOrder;
 use crate::polynomial_word::{block_of, word_of};
 use crate::tables::PlainMultiples;
+use crate::wide_mul::times_many;
 use crate::{Keyed128, Multiply};
 use octets::Block;
 
-/// The multiplier that holds 32 multiples of the key, half a KiB: the first choice, whatever the length of the text.
+// From this many blocks on, it is faster to make the multiples of three more powers of the key and take four blocks at a time.
+const MANY: usize = 44;
+
+/// The multiplier that holds 32 multiples of the key, half a KiB: the first choice, whatever the length of the text. For a run
+/// of many blocks it makes the multiples of three more powers of the key, and takes four blocks at a time.
 ///
 /// Each byte of the factor looks up two multiples, one by the high and one by the low four bits. The multiples are stored byte by
 /// byte, so that all sixteen bytes of the factor look up their byte of their multiples at once, in a vector of 16 bytes: no
@@ -20,6 +27,33 @@ pub struct TableMul {
     pub(crate) word: u128,
     pub(crate) multiples: PlainMultiples,
     ghost filled: { AreMultiples (of_word word) (entry multiples.high) (entry multiples.low) },
+}
+
+// The product of a word and the key whose multiples these are. It is not inlined, since a loop would load all the tables before
+// its first block.
+#[inline(never)]
+fn product(multiples: &PlainMultiples, x: u128) -> u128
+    ensures { (h : ℕ) → AreMultiples (of_word h) (entry multiples.now.high) (entry multiples.now.low)
+        → IsWordProduct x (to_be_bytes w128 h) result }
+{
+    multiples.times_word(x)
+}
+
+// The sum after blocks that are taken one by one, under the key whose multiples these are.
+#[inline(always)]
+pub(crate) fn times_few<O: HashOrder>(
+    multiples: &PlainMultiples,
+    sum: u128,
+    blocks: &[[u8; 16]],
+) -> u128
+    ensures { (h : ℕ) → AreMultiples (of_word h) (entry multiples.now.high) (entry multiples.now.low)
+        → IsSumAfter O.order (to_be_bytes w128 h) sum blocks.now result }
+{
+    let mut total = sum;
+    'taken: for block in blocks {
+        total = product(multiples, total ^ O::word_of(block));
+    }
+    total
 }
 
 impl TableMul {
@@ -68,7 +102,16 @@ impl Multiply for TableMul {
     }
 
     fn times_word(&self, x: u128) -> u128 {
-        self.multiples.times_word(x)
+        product(&self.multiples, x)
+    }
+
+    #[inline(always)]
+    fn times_all<O: HashOrder>(&self, sum: u128, blocks: &[[u8; 16]]) -> u128 {
+        if blocks.len() < MANY {
+            times_few::<O>(&self.multiples, sum, blocks)
+        } else {
+            times_many::<O>(self.word, &self.multiples, sum, blocks)
+        }
     }
 }
 
@@ -82,8 +125,9 @@ impl Keyed128 for TableMul {
     }
 }
 
-/// The multiplier that borrows the plain numbers that [`TableMul::plain_multiples`] returned. It makes no table. It looks them up as
-/// [`TableMul`] does: no address and no branch depends on the key or on the factor.
+/// The multiplier that borrows the plain numbers that [`TableMul::plain_multiples`] returned. It makes no table of
+/// the key itself. It looks them up, and takes a run of many blocks, as [`TableMul`] does: no address and no branch depends on the
+/// key or on the factor.
 #[derive(Drop, Clone, Copy)]
 pub struct PlainMul<'a> {
     word: u128,
@@ -114,6 +158,15 @@ impl<'a> Multiply for PlainMul<'a> {
     }
 
     fn times_word(&self, x: u128) -> u128 {
-        self.numbers.times_word(x)
+        product(self.numbers, x)
+    }
+
+    #[inline(always)]
+    fn times_all<O: HashOrder>(&self, sum: u128, blocks: &[[u8; 16]]) -> u128 {
+        if blocks.len() < MANY {
+            times_few::<O>(self.numbers, sum, blocks)
+        } else {
+            times_many::<O>(self.word, self.numbers, sum, blocks)
+        }
     }
 }

@@ -1,28 +1,19 @@
 //! The multiples of a word of GHASH's field (SP 800-38D, 6.3) by all polynomials of four bits, stored byte by byte: a table of
 //! sixteen bytes has byte j of all sixteen multiples, so that a vector looks sixteen bytes up at once, in a register.
 
-ghost use Rattle.std.specs.Prelude.{◌≡◌, ℕ, ◌<◌, slice_index};
+ghost use Rattle.std.specs.Prelude.{◌≡◌, ℕ, ◌+◌, ◌*◌, ◌/◌, ◌%◌, ◌<◌, slice_index, bit_xor};
 ghost use Rattle.std.specs.Int.{w128, to_be_bytes};
 ghost use Rattle.octets.specs.Bytes.{le};
-ghost use Rattle.gf128.specs.Code.Words.{of_word, mixed, entry, looked_up, table_at, AreBytes, AreMultiples};
+ghost use Rattle.gf128.specs.Code.Words.{of_word, entry, looked_up, table_at, AreBytes, AreMultiples};
 ghost use Rattle.gf128.specs.Code.Words.{IsBitsProduct, IsWordProduct};
 
 use crate::lanes::Lanes;
 use crate::nibbles::Nibbles;
 use crate::placed::Placed;
-use crate::polynomial_word::{times_x, times_x4};
 use std::simd::prelude::*;
 use std::simd::u8x16;
 
-// Where the bit of weight 8 of an index is set, and so on for 4, 2 and 1.
-const EIGHTS: [u8; 16] = [
-    0, 0, 0, 0, 0, 0, 0, 0, 255, 255, 255, 255, 255, 255, 255, 255,
-];
-
-const FOURS: [u8; 16] = [
-    0, 0, 0, 0, 255, 255, 255, 255, 0, 0, 0, 0, 255, 255, 255, 255,
-];
-
+// Where the bit of weight 2 of an index is set, and that of weight 1.
 const TWOS: [u8; 16] = [
     0, 0, 255, 255, 0, 0, 255, 255, 0, 0, 255, 255, 0, 0, 255, 255,
 ];
@@ -31,36 +22,52 @@ const ONES: [u8; 16] = [
     0, 255, 0, 255, 0, 255, 0, 255, 0, 255, 0, 255, 0, 255, 0, 255,
 ];
 
-// Byte `j` of the sixteen multiples of a word, which are sums of the word times 1, x, x^2 and x^3.
+// An index divided by 4, and its remainder.
+const FOURTHS: [u8; 16] = [0, 0, 0, 0, 1, 1, 1, 1, 2, 2, 2, 2, 3, 3, 3, 3];
+
+const REMAINDERS: [u8; 16] = [0, 1, 2, 3, 0, 1, 2, 3, 0, 1, 2, 3, 0, 1, 2, 3];
+
+// Four bytes of two words, from byte 4 * `group` on: of each the four sums of none, the second word's, the first word's, and both.
 #[inline(always)]
-fn table_of(once: Lanes, by_x: Lanes, by_x2: Lanes, by_x3: Lanes, j: usize) -> [u8; 16]
-    requires { j < 16 }
-    ensures { (n : ℕ) → n < 16 → slice_index result n ≡ mixed n (slice_index once.bytes j) (slice_index by_x.bytes j)
-        (slice_index by_x2.bytes j) (slice_index by_x3.bytes j) }
+fn pair_sums(first: Lanes, second: Lanes, group: usize) -> u8x16
+    requires { group < 4 }
+    ensures { (k : ℕ) → k < 16 → slice_index result k ≡ bit_xor (k % 4 / 2 * slice_index first.bytes (4 * group + k / 4))
+        (k % 4 % 2 * slice_index second.bytes (4 * group + k / 4)) }
 {
-    let at = u8x16::splat(j as u8);
-    let eights = once.bytes.swizzle_dyn_within::<16>(at) & u8x16::from_array(EIGHTS);
-    let fours = by_x.bytes.swizzle_dyn_within::<16>(at) & u8x16::from_array(FOURS);
-    let twos = by_x2.bytes.swizzle_dyn_within::<16>(at) & u8x16::from_array(TWOS);
-    let ones = by_x3.bytes.swizzle_dyn_within::<16>(at) & u8x16::from_array(ONES);
-    ((eights ^ fours) ^ (twos ^ ones)).to_array()
+    let at = u8x16::from_array(FOURTHS) + u8x16::splat(4 * group as u8);
+    let twos = first.bytes.swizzle_dyn_within::<16>(at) & u8x16::from_array(TWOS);
+    let ones = second.bytes.swizzle_dyn_within::<16>(at) & u8x16::from_array(ONES);
+    twos ^ ones
 }
 
-// The sixteen multiples of a word by four bits.
+// The table of the byte at `place` in two such groups: the upper two bits of an index choose in `high`, the lower two in `low`.
 #[inline(always)]
-fn sixteen_tables(word: u128) -> [[u8; 16]; 16]
-    ensures { (n : ℕ) → n < 16 → IsBitsProduct 4 n word (entry result n) }
+fn table_of(high: u8x16, low: u8x16, place: usize) -> [u8; 16]
+    requires { place < 4 }
+    ensures { (n : ℕ) → n < 16 → slice_index result n
+        ≡ bit_xor (slice_index high (4 * place + n / 4)) (slice_index low (4 * place + n % 4)) }
 {
-    let by_x = times_x(word);
-    let by_x2 = times_x(by_x);
-    let by_x3 = times_x(by_x2);
-    let once = Lanes::of(word);
-    let x1 = Lanes::of(by_x);
-    let x2 = Lanes::of(by_x2);
-    let x3 = Lanes::of(by_x3);
+    let first = u8x16::splat(4 * place as u8);
+    let by_high = high.swizzle_dyn_within::<16>(u8x16::from_array(FOURTHS) + first);
+    let by_low = low.swizzle_dyn_within::<16>(u8x16::from_array(REMAINDERS) + first);
+    (by_high ^ by_low).to_array()
+}
+
+// The sixteen multiples of a word by four bits, which are sums of the word times 1, x, x^2 and x^3. Table j has byte j of each.
+#[inline(always)]
+fn sixteen_tables(once: Lanes) -> [[u8; 16]; 16]
+    ensures { (n : ℕ) → n < 16 → IsBitsProduct 4 n (le once.bytes) (entry result n) }
+{
+    let by_x = once.times_power(1);
+    let by_x2 = once.times_power(2);
+    let by_x3 = by_x2.times_power(1);
     let mut tables = [[0; 16]; 16];
-    'tables: for j in 0..16usize {
-        tables[j] = table_of(once, x1, x2, x3, j);
+    'groups: for group in 0..4usize {
+        let high = pair_sums(once, by_x, group);
+        let low = pair_sums(by_x2, by_x3, group);
+        'places: for place in 0..4usize {
+            tables[4 * group + place] = table_of(high, low, place);
+        }
     }
     tables
 }
@@ -97,9 +104,11 @@ impl PlainMultiples {
     pub(crate) fn of(word: u128) -> PlainMultiples
         ensures { AreMultiples (of_word word) (entry result.high) (entry result.low) }
     {
+        let once = Lanes::of(word);
+        let by_x4 = once.times_power(4);
         PlainMultiples {
-            high: sixteen_tables(word),
-            low: sixteen_tables(times_x4(word)),
+            high: sixteen_tables(once),
+            low: sixteen_tables(by_x4),
         }
     }
 
@@ -142,14 +151,13 @@ impl PlainMultiples {
         at.look(self.high[j], self.low[j])
     }
 
-    // Multiplies the word whose multiples these are by another word.
+    // Multiplies the word whose multiples these are by another word, both as vectors.
     #[inline(always)]
-    pub(crate) fn times_word(&self, x: u128) -> u128
+    pub(crate) fn times_lanes(&self, word: Lanes) -> Lanes
         ensures { (h : ℕ) → AreMultiples (of_word h) (entry self.now.high) (entry self.now.low)
-            → IsWordProduct x (to_be_bytes w128 h) result }
+            → IsWordProduct (le word.bytes) (to_be_bytes w128 h) (le result.bytes) }
     {
         self.bytes_known();
-        let word = Lanes::of(x);
         let at = Nibbles::of(word);
         let mut sum = Placed::none();
         'low: for j in 0..7usize {
@@ -162,5 +170,15 @@ impl PlainMultiples {
         }
         let last = self.part(at, 15);
         sum.reduce_with(last)
+    }
+
+    // Multiplies the word whose multiples these are by another word.
+    #[inline(always)]
+    pub(crate) fn times_word(&self, x: u128) -> u128
+        ensures { (h : ℕ) → AreMultiples (of_word h) (entry self.now.high) (entry self.now.low)
+            → IsWordProduct x (to_be_bytes w128 h) result }
+    {
+        let word = Lanes::of(x);
+        self.times_lanes(word).word()
     }
 }

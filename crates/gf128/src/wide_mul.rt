@@ -3,20 +3,21 @@
 ghost use Rattle.std.specs.Prelude.{◌≡◌, ◌<◌};
 ghost use Rattle.std.specs.Int.{w128, to_be_bytes};
 ghost use Rattle.octets.specs.Bytes.{le};
-ghost use Rattle.octets.specs.Polynomial.{power};
-ghost use Rattle.gf128.specs.Code.Words.{of_word, looked_word, looked_four, IsReduced, IsFourProducts};
+ghost use Rattle.octets.specs.Polynomial.{power, Agree};
+ghost use Rattle.gf128.specs.Code.Words.{of_word, looked_word, looked_four, entry, AreMultiples, IsReduced, IsFourProducts};
+ghost use Rattle.gf128.specs.Orders.{sum_after, IsSumAfter};
 
 use crate::hash_order::HashOrder;
 use crate::lanes::Lanes;
 use crate::nibbles::{NibblePairs, Nibbles};
 use crate::placed::Placed;
-use crate::polynomial_word::word_of;
-use crate::table_mul::TableMul;
+use crate::table_mul::{TableMul, times_few};
+use crate::tables::PlainMultiples;
 use crate::{Keyed128, Multiply};
 use octets::{Block, WIDE};
 
 /// The multiplier that holds 32 multiples of each of the key's first four powers, 2 KiB, and takes four blocks at a time. It
-/// is for a text of at least 1 KiB, or for a key that is used for several texts.
+/// is for a key that hashes several long texts; for one long text, [`TableMul`] makes the tables where they are used.
 ///
 /// It looks them up as [`TableMul`] does, in registers: no address and no branch depends on the key or on the blocks.
 #[derive(Drop)]
@@ -136,8 +137,8 @@ impl WideMul {
 
     // The sum of four words times four powers of the key, the fourth power first.
     #[inline(always)]
-    fn times_lanes(&self, a: Lanes, b: Lanes, c: Lanes, d: Lanes) -> u128
-        ensures { IsFourProducts (le a.bytes) (le b.bytes) (le c.bytes) (le d.bytes) (to_be_bytes w128 self.now.first.word) result }
+    fn times_lanes(&self, a: Lanes, b: Lanes, c: Lanes, d: Lanes) -> Lanes
+        ensures { IsFourProducts (le a.bytes) (le b.bytes) (le c.bytes) (le d.bytes) (to_be_bytes w128 self.now.first.word) (le result.bytes) }
     {
         self.first.multiples.bytes_known();
         self.second.multiples.bytes_known();
@@ -156,6 +157,37 @@ impl WideMul {
         let last = self.part(words, 15);
         sum.reduce_with(last)
     }
+
+    // Makes this the multiplier of the key that this word is, in place. To copy the key's multiples is faster than to make them.
+    fn set_multiples(&mut self, word: u128, multiples: &PlainMultiples)
+        requires { AreMultiples (of_word word) (entry multiples.now.high) (entry multiples.now.low) }
+        ensures { self.new.first.word ≡ word }
+    {
+        self.first = TableMul {
+            word,
+            multiples: *multiples,
+        };
+        let second = multiples.times_word(word);
+        let third = multiples.times_word(second);
+        let fourth = multiples.times_word(third);
+        self.second.set_word(second);
+        self.third.set_word(third);
+        self.fourth.set_word(fourth);
+    }
+
+    // The sum after four blocks.
+    #[inline(always)]
+    fn times_blocks<O: HashOrder>(&self, sum: Lanes, blocks: &[[u8; 16]; 4]) -> Lanes
+        ensures { Agree (of_word (le result.bytes))
+            (sum_after O.order (to_be_bytes w128 self.now.first.word) (of_word (le sum.bytes)) blocks.now 4) }
+    {
+        let first = Lanes::of_bytes(O::word_bytes(&blocks[0]));
+        let a = sum.xor(first);
+        let b = Lanes::of_bytes(O::word_bytes(&blocks[1]));
+        let c = Lanes::of_bytes(O::word_bytes(&blocks[2]));
+        let d = Lanes::of_bytes(O::word_bytes(&blocks[3]));
+        self.times_lanes(a, b, c, d)
+    }
 }
 
 impl Multiply for WideMul {
@@ -170,16 +202,15 @@ impl Multiply for WideMul {
     }
 
     #[inline(always)]
-    fn times_blocks<O: HashOrder>(&self, sum: u128, blocks: &[[u8; 16]; 4]) -> u128 {
-        let first = sum ^ O::word_of(&blocks[0]);
-        let second = O::word_of(&blocks[1]);
-        let third = O::word_of(&blocks[2]);
-        let fourth = O::word_of(&blocks[3]);
-        let a = Lanes::of(first);
-        let b = Lanes::of(second);
-        let c = Lanes::of(third);
-        let d = Lanes::of(fourth);
-        self.times_lanes(a, b, c, d)
+    fn times_all<O: HashOrder>(&self, sum: u128, blocks: &[[u8; 16]]) -> u128 {
+        let (fours, rest) = blocks.as_chunks::<4>();
+        // The sum stays a vector from one run of four blocks to the next.
+        let mut total = Lanes::of(sum);
+        'fours: for four in fours {
+            total = self.times_blocks::<O>(total, four);
+        }
+        let taken = total.word();
+        times_few::<O>(&self.first.multiples, taken, rest)
     }
 }
 
@@ -204,13 +235,24 @@ impl Keyed128 for WideMul {
     }
 
     fn set(&mut self, key: &Block) {
-        let word = word_of(key.bytes());
-        self.first.set_word(word);
-        let second = self.first.times_word(word);
-        let third = self.first.times_word(second);
-        let fourth = self.first.times_word(third);
-        self.second.set_word(second);
-        self.third.set_word(third);
-        self.fourth.set_word(fourth);
+        let first = TableMul::of(key);
+        self.set_multiples(first.word, &first.multiples);
     }
+}
+
+// The sum after many blocks, under the key that this word is and whose multiples these are. The tables of four powers stand on
+// the stack here alone.
+#[inline(never)]
+pub(crate) fn times_many<O: HashOrder>(
+    word: u128,
+    multiples: &PlainMultiples,
+    sum: u128,
+    blocks: &[[u8; 16]],
+) -> u128
+    requires { AreMultiples (of_word word) (entry multiples.now.high) (entry multiples.now.low) }
+    ensures { IsSumAfter O.order (to_be_bytes w128 word) sum blocks.now result }
+{
+    let mut multiplier = WideMul::none();
+    multiplier.set_multiples(word, multiples);
+    multiplier.times_all::<O>(sum, blocks)
 }

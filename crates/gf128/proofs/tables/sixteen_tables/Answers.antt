@@ -1,24 +1,34 @@
-use Rattle.std.proofs.Common.{◌≡◌, ℕ, ◌^◌, ◌<◌, arith, rules}
-use Rattle.gf128.specs.Code.Words.{IsMoved, times_x}
-use Rattle.gf128.proofs.BitParts.{two_moves, times_x_moves}
-use Rattle.gf128.proofs.LookUps.{sixteen_entries}
+use Rattle.std.proofs.Common.{ℕ, List, ◌+◌, ◌*◌, ◌∙◌, get_or, refl, arith}
+use Rattle.std.proofs.lemmas.List.{length-set}
+use Rattle.octets.specs.Bytes.{le}
+use Rattle.gf128.specs.Code.Words.{mixed}
+use Rattle.gf128.proofs.LookUps.{mixed_lane, one_table, sixteen_entries}
 use Rattle.gf128.proofs.tables.sixteen_tables.Goals as goal
 
--- `times_x` multiplies a word by x
-moves : (n m : ℕ) → n < 2 ^ 128 → m ≡ times_x n → IsMoved 1 n m
-moves n m small e = rw e (times_x_moves n small)
+pub places-preserved : goal.places-preserved
+places-preserved c =
+    let g : ℕ = c.groups.group in
+    let t : ℕ = c.places.place in
+    let x : List ℕ = c.args.once.bytes in
+    let x1 : List ℕ = c.times_power-by_x.result.bytes in
+    let x2 : List ℕ = c.times_power-by_x2.result.bytes in
+    let x3 : List ℕ = c.times_power-by_x3.result.bytes in (
+      length-set c.places.tables (4 * g + t) c.table_of.result ∙ c.places.invariant.0,
+      λ k n lk ln.
+          one_table c.places.tables c.table_of.result (4 * g + t) k n (λ j. mixed n (get_or x j 0) (get_or x1 j 0) (get_or x2 j 0) (get_or x3 j 0))
+          c.places.invariant.0 (omega (arith, c.groups-test.true, c.places-test.true)) (omega (arith, lk))
+          (λ h. c.places.invariant.1 k n h ln)
+          (mixed_lane x x1 x2 x3 c.pair_sums-high.result c.pair_sums-low.result c.table_of.result g t n c.pair_sums-high.ensures
+          c.pair_sums-low.ensures c.places-test.true ln (c.table_of.ensures n ln)),
+    )
 
 pub returns : goal.returns
-returns c =
-    let h : ℕ = c.args.word in
-    let x1 : ℕ = c.times_x-by_x.result in
-    let x2 : ℕ = c.times_x-by_x2.result in
-    let x3 : ℕ = c.times_x-by_x3.result in
-    let m1 : IsMoved 1 h x1 = moves h x1 (search rules) c.times_x-by_x.ensures in
-    let m2 : IsMoved 1 x1 x2 = moves x1 x2 (search rules) c.times_x-by_x2.ensures in
-    let m3 : IsMoved 1 x2 x3 = moves x2 x3 (search rules) c.times_x-by_x3.ensures in
-    λ n l.
-    sixteen_entries c.tables.tables c.of-once.result.bytes c.of-x1.result.bytes c.of-x2.result.bytes c.of-x3.result.bytes h x1 x2 x3 n
-    c.of-once.result.is_block c.of-x1.result.is_block c.of-x2.result.is_block c.of-x3.result.is_block c.of-once.ensures
-    c.of-x1.ensures c.of-x2.ensures c.of-x3.ensures l
-    (λ j s. c.tables.invariant.1 j n (omega (arith, s, c.tables-test.false)) l) m1 (two_moves h x1 x2 m1 m2) m3
+returns c = λ n l.
+    let x = c.args.once in
+    let x1 = c.times_power-by_x.result in
+    let x2 = c.times_power-by_x2.result in
+    let x3 = c.times_power-by_x3.result in
+    sixteen_entries c.groups.tables x.bytes x1.bytes x2.bytes x3.bytes (le x.bytes) (le x1.bytes) (le x2.bytes) (le x3.bytes) n
+    x.is_block x1.is_block x2.is_block x3.is_block refl refl refl refl l
+    (λ j s. c.groups.invariant.1 j n (omega (arith, s, c.groups-test.false)) l) c.times_power-by_x.ensures
+    c.times_power-by_x2.ensures c.times_power-by_x3.ensures

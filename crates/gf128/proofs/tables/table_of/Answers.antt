@@ -1,19 +1,12 @@
-use Rattle.gf128.proofs.LookUps.{mixed_lane, same_place}
+use Rattle.std.proofs.Common.{◌*◌, arith}
+use Rattle.gf128.proofs.LookUps.{fourths_ok, remainders_ok, table_lane}
 use Rattle.gf128.proofs.tables.table_of.Goals as goal
 
-pub swizzle : goal.swizzle
-swizzle c = same_place c.args.j c.requires
+pub swizzle-by_high : goal.swizzle-by_high
+swizzle-by_high c = fourths_ok (4 * c.args.place) (omega (arith, c.requires))
 
-pub swizzle-2 : goal.swizzle-2
-swizzle-2 c = same_place c.args.j c.requires
-
-pub swizzle-3 : goal.swizzle-3
-swizzle-3 c = same_place c.args.j c.requires
-
-pub swizzle-4 : goal.swizzle-4
-swizzle-4 c = same_place c.args.j c.requires
+pub swizzle-by_low : goal.swizzle-by_low
+swizzle-by_low c = remainders_ok (4 * c.args.place) (omega (arith, c.requires))
 
 pub returns : goal.returns
-returns c = λ n l.
-    mixed_lane c.args.once.bytes c.args.by_x.bytes c.args.by_x2.bytes c.args.by_x3.bytes c.args.j n c.args.once.is_block
-    c.args.by_x.is_block c.args.by_x2.is_block c.args.by_x3.is_block c.requires l
+returns c = λ n l. table_lane c.args.high c.args.low (4 * c.args.place) n (omega (arith, c.requires)) l

@@ -1,4 +1,4 @@
 use Rattle.gf128.proofs.table_mul.PlainMulMultiply.times_word.Goals as goal
 
 pub returns : goal.returns
-returns c = c.times_word.ensures c.args.self.now.word c.args.self.now.filled
+returns c = c.product.ensures c.args.self.now.word c.args.self.now.filled

@@ -64,7 +64,7 @@ returns c =
     let end : c.high.j + 8 ≡ 15 = omega (arith, c.high-test.false, c.high.auto.j-end) in
     let number = placed_more words 15 16 (le c.part-last.result.bytes) _ _ 128 (c.high.invariant ∙ ap (placed words) end)
     c.part-last.ensures refl refl refl in
-    let all : c.reduce_with.result ≡ bit_xor (bit_xor (product p) (product q)) (bit_xor (product r) (product t)) =
+    let all : le c.reduce_with.result.bytes ≡ bit_xor (bit_xor (product p) (product q)) (bit_xor (product r) (product t)) =
     c.reduce_with.ensures ∙ ap folded_wide number ∙ four_placed p q r t in
     let is : IsFourProducts (le c.of-words.result.fourth.word.bytes) (le c.of-words.result.third.word.bytes) (le c.of-words.result.second.word.bytes)
     (le c.of-words.result.first.word.bytes) (to_be_bytes w128 h) (bit_xor (bit_xor (product p) (product q)) (bit_xor (product r) (product t))) =

@@ -2,7 +2,7 @@ use Rattle.std.proofs.Common.{◌≡◌, ◌+◌}
 use Rattle.octets.specs.Bytes.{le}
 use Rattle.gf128.specs.Code.Words.{total, looked_word}
 use Rattle.gf128.proofs.Placings.{placed}
-use Rattle.gf128.proofs.tables.PlainMultiples.times_word.Given as goal
+use Rattle.gf128.proofs.tables.PlainMultiples.times_lanes.Given as goal
 
 abbrev pub invariant-low : goal.invariant-low
 invariant-low l = total (le l.sum.low.bytes) (le l.sum.middle.bytes) (le l.sum.high.bytes)
