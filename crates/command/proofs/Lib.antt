@@ -3,5 +3,6 @@ mod AnswersLemmas
 mod BlamesLemmas
 mod FilesLemmas
 mod KeywrapLemmas
+mod LinesLemmas
 mod NewFileLemmas
 mod ReadingsLemmas

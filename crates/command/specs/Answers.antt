@@ -1,5 +1,5 @@
 -- The effect of a request: what the program prints, with which status, or why it stops.
-use Rattle.std.specs.Prelude.{◌≡◌, ℕ, ◌⊎◌, List, [], ◌∷◌, ◌++◌, codes, Ok, Err, MatchResult, IfOk}
+use Rattle.std.specs.Prelude.{◌≡◌, ℕ, ◌⊎◌, List, [], ◌∷◌, ◌++◌, codes, take, Ok, Err, MatchResult, IfOk}
 use Rattle.std.specs.declared.option.Option.{Option}
 use Rattle.std.specs.declared.result.Result.{Result}
 use Rattle.std.specs.Io.KnownBytes.{Appends}
@@ -17,6 +17,7 @@ use Rattle.aead.specs.Refusals.{WholeSealRefused, WholeOpenRefused}
 use Rattle.command.specs.Aead.{IsSealed, IsOpened, IsRefused}
 use Rattle.command.specs.Files.{Wrote}
 use Rattle.command.specs.Hex.{hex_line}
+use Rattle.command.specs.Names.{failure_line}
 use Rattle.command.specs.Reports.{IsChecked, FileRefused}
 use Rattle.command.specs.Requests.{HasTwoPaths}
 use Rattle.command.specs.Statuses.{failure_status}
@@ -89,18 +90,29 @@ abbrev pub status_of : Result ℕ Failure → ℕ
 status_of (Ok status) = status
 status_of (Err failure) = failure_status failure
 
--- what is printed, and the status, if the words are read as this
+-- known bytes grow by a beginning of a line
+abbrev pub AppendsBeginning : (before after : Option (List ℕ)) → List ℕ → Type 0
+AppendsBeginning before after line = (n : ℕ) × Appends before after (take n line)
+
+-- what is printed on standard error: nothing, or a beginning of the line that names the failure
+abbrev pub NamesFailure : (before after : Option (List ℕ)) → Result ℕ Failure → Type 0
+NamesFailure before after result = MatchResult result (λ _. after ≡ before)
+    (λ failure. AppendsBeginning before after (failure_line failure))
+
+-- what is printed on standard output and on standard error, and the status, if the words are read as this
 pub record Ends {O : Type 0} (contents : List ℕ → ℕ → Option (List ℕ)) (blank : List ℕ → Option (List ℕ))
-    (taken : O → Option (List ℕ)) (before after : Option (List ℕ)) (read : Result Request Refusal)
-    (status : ℕ) : Type 0 where
+    (taken : O → Option (List ℕ)) (before after err_before err_after : Option (List ℕ))
+    (read : Result Request Refusal) (status : ℕ) : Type 0 where
   pub result : Result ℕ Failure
   pub answers : Answers contents blank taken before after read result
+  pub named : NamesFailure err_before err_after result
   pub status_is : status ≡ status_of result
 
 -- what is printed, and the status, for words that are read as some request or refusal
 pub record Runs {O : Type 0} (contents : List ℕ → ℕ → Option (List ℕ)) (blank : List ℕ → Option (List ℕ))
-    (taken : O → Option (List ℕ)) (before after : Option (List ℕ)) (status : ℕ) : Type 0 where
+    (taken : O → Option (List ℕ)) (before after err_before err_after : Option (List ℕ)) (status : ℕ)
+    : Type 0 where
   pub read : Result Request Refusal
   -- a file is never written to the path that it is read from
   pub two_paths : IfOk read HasTwoPaths
-  pub ends : Ends contents blank taken before after read status
+  pub ends : Ends contents blank taken before after err_before err_after read status

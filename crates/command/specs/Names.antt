@@ -1,5 +1,5 @@
 -- The texts of failures.
-use Rattle.std.specs.Prelude.{ℕ, List, codes}
+use Rattle.std.specs.Prelude.{ℕ, List, [], ◌∷◌, ◌++◌, codes}
 use Rattle.octets.specs.Names.{fault_name}
 use Rattle.vectors.specs.Names.{fault_text}
 use Rattle.command.specs.declared.failure.Failure.{Failure}
@@ -13,3 +13,7 @@ failure_text UnknownSuite = codes "UnknownSuite"
 failure_text BadHex = codes "BadHex"
 failure_text (OfFault fault) = fault_name fault
 failure_text (OfVector fault) = fault_text fault
+
+-- the line that names a failure on standard error, with LF
+abbrev pub failure_line : Failure → List ℕ
+failure_line failure = codes "aeadkit: " ++ (failure_text failure ++ 10 ∷ [])

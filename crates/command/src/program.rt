@@ -2,11 +2,13 @@
 ghost use Rattle.std.specs.Prelude.{◌≤◌, ◌≡◌, ◌↔◌, ◌⊎◌, ⊤, [], Err, IfOk, IfErr, MatchResult};
 ghost use Rattle.std.specs.Prelude.{string_bytes};
 ghost use Rattle.std.specs.Io.KnownBytes.{Appends};
+ghost use Rattle.octets.specs.Device.{GivesAll};
 ghost use Rattle.command.specs.Answers.{Answered, Stopped, Silent, IsOutputFailure};
-ghost use Rattle.command.specs.Answers.{IsRefusedAs, Answers, Ends, Runs};
+ghost use Rattle.command.specs.Answers.{IsRefusedAs, Answers, AppendsBeginning, Ends, Runs};
 ghost use Rattle.command.specs.Blames.{InputMayFail, Blames, RequestBlames};
 ghost use Rattle.command.specs.declared.failure.Failure.TheVariants.{Fault as OfFault};
 ghost use Rattle.command.specs.Hex.{hex_line};
+ghost use Rattle.command.specs.Names.{failure_line};
 ghost use Rattle.command.specs.Reports.{report_text, IsChecked, FileRefused};
 ghost use Rattle.command.specs.Statuses.{failure_status};
 
@@ -16,10 +18,11 @@ use crate::storage::Storage;
 use crate::version::VERSION;
 use crate::words::{PrintRequest, Refusal, Request};
 use crate::{commands, words};
-use octets::Fault;
+use octets::{DeviceFault, Fault};
 use std::alloc::{AllocError, Allocator, Global};
 use std::convert::AsStr;
-use std::io::Write;
+use std::fmt::{InlineText, Write as _};
+use std::io::{ErrorKind, Write};
 use vectors::Report;
 
 // Writes text to standard output, and returns status 0. The only faults are `Write` and `OutOfMemory`.
@@ -144,12 +147,39 @@ fn refuse<W: Write>(alloc: Global, refusal: &Refusal, out: &mut W) -> Result<u8,
     }
 }
 
+// Writes a line to standard error, in at most 1,000 writes. An interrupted write is tried again. At any other failure a
+// beginning of the line was written.
+fn write_line<E: Write>(err: &mut E, line: &[u8]) -> Result<(), DeviceFault>
+    ensures { GivesAll (E.contents err.old) (E.contents err.new) result line.now }
+{
+    let mut at = 0;
+    for _ in 0..1000 {
+        if at == line.len() {
+            return Ok(());
+        }
+        match err.write(&line[at..]) {
+            Ok(0) => return Err(DeviceFault),
+            Ok(n) => at += n,
+            Err(error) if error.kind() == ErrorKind::Interrupted => {}
+            Err(_) => return Err(DeviceFault),
+        }
+    }
+    Err(DeviceFault)
+}
+
 /// Prints on standard error why the program stops, and returns the status. If standard error fails, the status is the same.
 pub fn report<E: Write>(err: &mut E, failure: Failure) -> u8
     ensures value { result ≡ failure_status failure }
     ensures bound { result ≤ 4 }
+    // What is printed is a beginning of the line that names this failure.
+    ensures line { AppendsBeginning (E.contents err.old) (E.contents err.new) (failure_line failure) }
 {
-    let _ = writeln!(err, "aeadkit: {failure}");
+    // No contract says what `writeln!` wrote before it failed, so the line is made first, and then written by `write`. The longest
+    // one, an unknown suite in the line with the greatest number, has 51 bytes.
+    let mut line = InlineText::<64>::new();
+    if let Ok(()) = writeln!(line, "aeadkit: {failure}") {
+        let _ = write_line(err, line.as_str().as_bytes());
+    }
     failure.status()
 }
 
@@ -181,7 +211,7 @@ pub fn respond<F: Storage, W: Write, E: Write>(
     err: &mut E,
 ) -> u8
     ensures ends { Ends (F.contents files.now) (F.blank files.now) F.Output.taken
-        (W.contents out.old) (W.contents out.new) read.now result }
+        (W.contents out.old) (W.contents out.new) (E.contents err.old) (E.contents err.new) read.now result }
     ensures bound { result ≤ 4 }
     // With status 0 nothing is printed on standard error.
     ensures quiet { result ≡ 0 → E.contents err.new ≡ E.contents err.old }
@@ -202,9 +232,9 @@ pub fn run<S: AsStr, F: Storage, W: Write, E: Write>(
     out: &mut W,
     err: &mut E,
 ) -> u8
-    // Standard output and the status are those of a request or a refusal that the words can be read as.
+    // Standard output, standard error and the status are those of a request or a refusal that the words can be read as.
     ensures runs { Runs (F.contents files.now) (F.blank files.now) F.Output.taken
-        (W.contents out.old) (W.contents out.new) result }
+        (W.contents out.old) (W.contents out.new) (E.contents err.old) (E.contents err.new) result }
     ensures bound { result ≤ 4 }
     ensures quiet { result ≡ 0 → E.contents err.new ≡ E.contents err.old }
 {

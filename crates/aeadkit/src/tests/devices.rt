@@ -1,4 +1,4 @@
-//! One file in memory, a writer that fails, and one that has to be flushed.
+//! One file in memory, a writer that fails, one that halts, and one that has to be flushed.
 ghost use Rattle.std.specs.Prelude.{◌≤◌, IfOk};
 
 use command::Storage;
@@ -83,6 +83,31 @@ impl io::Write for FailsAfter {
         } else {
             Ok(count)
         }
+    }
+
+    fn flush(&mut self) -> io::Result<()> {
+        Ok(())
+    }
+}
+
+/// A writer that takes one byte at every second write. The other writes are interrupted.
+#[derive(Drop)]
+pub struct Halting {
+    pub bytes: Vec<u8>,
+    pub is_interrupted: bool,
+}
+
+impl io::Write for Halting {
+    fn write(&mut self, buf: &[u8]) -> io::Result<usize> {
+        self.is_interrupted = !self.is_interrupted;
+        if self.is_interrupted {
+            return Err(io::Error::from(io::ErrorKind::Interrupted));
+        }
+        let Some(byte) = buf.first() else {
+            return Ok(0);
+        };
+        self.bytes.push(*byte)?;
+        Ok(1)
     }
 
     fn flush(&mut self) -> io::Result<()> {

@@ -1,7 +1,6 @@
 -- The runs of an engine into an outlet.
 use Rattle.std.specs.Prelude.{◌≡◌, ℕ, ◌⊎◌, List, Option, Some, Result, Ok, Err, MatchResult, IfSome}
 use Rattle.std.specs.Io.KnownBytes.{Appends}
-use Rattle.octets.specs.declared.fault.Fault.{Fault}
 use Rattle.octets.specs.declared.fault.Fault.TheVariants.{Read, OutOfMemory}
 use Rattle.aead.specs.Sealing.{Setting}
 use Rattle.command.specs.declared.failure.Failure.{Failure}

@@ -1,12 +1,13 @@
-//! Standard output and standard error that fail.
-use super::super::devices::{FailsAfter, NO_FILES, OneFile, Waiting};
-use super::super::runs::{CHECK, runs_into};
+//! Standard output and standard error that fail or halt.
+use super::super::devices::{FailsAfter, Halting, NO_FILES, OneFile, Waiting};
+use super::super::runs::{CHECK, names, runs_into};
 use super::super::shows;
 use super::super::vector_files::TWO_RECORDS;
-use command::{Storage, run};
+use command::{Failure, Storage, report, run};
 use std::alloc::Global;
 use std::io;
 use std::process::Abort;
+use vectors::{Cause, VectorFault};
 
 const KEY: &str = "000102030405060708090a0b0c0d0e0f";
 
@@ -76,4 +77,18 @@ fn failing_error(rt: HostRuntime) {
         let answer = run(rt.alloc(), &NO_FILES, &words, &mut out, &mut err);
         shows(&rt, answer == status, key);
     }
+}
+
+// The line of a failure is printed whole, also the longest one, if standard error takes it in many writes, some of which are
+// interrupted.
+#[test]
+fn halting_error(rt: HostRuntime) {
+    let mut err = Halting {
+        bytes: Vec::new(rt.alloc()),
+        is_interrupted: false,
+    };
+    let fault = VectorFault::AtLine(u64::MAX, Cause::UnknownSuite);
+    let status = report(&mut err, Failure::Vector(fault));
+    let text = "UnknownSuite at line 18446744073709551615";
+    shows(&rt, status == 1 && names(&err.bytes, text), text);
 }
