@@ -1,10 +1,11 @@
 #!/bin/sh
-# Looks in the built library for conditional jumps and addresses that depend on secret bytes, with valgrind (memcheck and lackey).
+# Looks in the built library, or in the program, for conditional jumps and addresses that depend on secret bytes, with valgrind
+# (memcheck and lackey).
 set -eu
 unset CDPATH
-claimed="1:\S* 2:\S* 3:\S* 4:\S* 5:\S* 6:\S* 16:\S* 24:\S* 32:\S*"
+claimed="1 2 3 4 5 6 16 24 32"
 suites="1 2 3 4 5 6 16 24 32"
-calls=".*"
+calls='\S*'
 lengths=whole
 table=
 jobs=$(nproc)
@@ -13,13 +14,16 @@ usage() {
   PREFIX            what build.sh laid out. Both builds are looked at, if PREFIX has both and this machine runs both
   --short           fewer lengths and secrets, and of suites with the same code not each call
   --suites WORDS    only these: 1 to 6 as in the header; 16, 24 and 32 are key wrap under a key of that length
-  --calls REGEX     only the calls whose names match as a whole, such as 'open.*|seal'
-  --claimed WORDS   what must have no site but the declared verdicts: words SUITE or SUITE:REGEX of calls, '' for nothing.
-                    $claimed without the option
+  --calls REGEX     only the calls whose names match as a whole, such as 'open.*|seal'. Without the option all calls of the
+                    library, and nothing of the program. Its commands have names of several words, such as 'aeadkit seal-file' and
+                    'aeadkit unwrap --pad': 'aeadkit .*' looks at seal-file, open-file, wrap and unwrap, and '.*' at everything
+  --claimed WORDS   what must have no site but the declared verdicts, '' for nothing: a word SUITE for all calls of the library
+                    under this suite, and a word SUITE:REGEX for the calls, and the commands of the program, whose names match as a
+                    whole, such as '1:aeadkit.*'. $claimed without the option
   --write FILE      writes the table there, and not to standard output
   --jobs N          as many valgrinds at once
-Prints for each suite and call how many instructions of the library depend on a secret, and where they are. The status is 1 if
-what is claimed has one, if known code is not judged as it should be, or if a run fails; 2 at wrong arguments." >&2
+Prints for each suite and call how many instructions depend on a secret, and where they are. The status is 1 if what is claimed
+has one, if known code is not judged as it should be, or if a run fails; 2 at wrong arguments." >&2
     exit 2
 }
 while [ $# -gt 1 ]; do
@@ -68,11 +72,7 @@ for build in $builds; do
     ln -s libaeadkit.so "$room/$build/$name"
     program=$prefix/libexec/aeadkit/$build/aeadkit
     [ -e "$program" ] || [ $build != default ] || program=$prefix/bin/aeadkit
-    if [ -e "$program" ]; then
-        cp "$program" "$room/$build/"
-    else
-        echo "left out: the program of the build $build, which is not in PREFIX"
-    fi
+    [ ! -e "$program" ] || cp "$program" "$room/$build/"
     cc -no-pie -o "$room/$build/calls" "$room/calls.o" "$room/known.o" "$room/$build/libaeadkit.so" \
         -Wl,-rpath,"$room/$build" -Wl,-z,now
 done

@@ -6,8 +6,8 @@
 #include <stdio.h>
 
 /* A store to one of these is a mark: a group of runs over the same lengths begins, a run with another secret, and the stretch
-   that is looked at begins and ends. */
-volatile uint64_t ct_group, ct_secret, ct_on, ct_off;
+   that is looked at begins and ends. They are not zero at first, since the loader's zeros would be stores too. */
+volatile uint64_t ct_group = 1, ct_secret = 1, ct_on = 1, ct_off = 1;
 
 static int print_object(struct dl_phdr_info *info, size_t size, void *out) {
     uint64_t low = UINT64_MAX, high = 0;

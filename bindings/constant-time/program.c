@@ -2,7 +2,11 @@
    that the program decodes of its command line and the text that it reads, and sets the marks of a trace (marks.h).
 
    SECRETS has the bytes of the secret values in the order in which they are decoded, in hexadecimal and with spaces between. A
-   value is decoded once the next request for memory comes, and from the first one on the program is looked at. READS=secret makes the bytes of files secret.
+   value is decoded once the next request for memory comes, and from the first one on the program is looked at. READS=secret makes
+   the bytes of files secret.
+   PUBLIC=LENGTH, under memcheck, is the length of the text of a wrapping with padding. The program decrypts it, so for memcheck it
+   is secret; but like the validity of the wrapping it is a verdict, and the program goes on with it. It is made public when memory
+   is next asked for or returned.
    GROUP=LENGTH begins a group of runs over texts of this length; each later run of it has GROUP=-. The variables of all have the
    same length, since the stack begins below them. */
 #include "marks.h"
@@ -18,6 +22,8 @@ static struct { unsigned char bytes[MOST_BYTES]; size_t length; } secrets[MOST_S
 static size_t secret_count, found, last_size;
 static void *last;
 static int reads_secrets;
+static uint32_t public_length; /* or 0 */
+extern void *__libc_stack_end;
 
 __attribute__((constructor)) static void begin(void) {
     if (!RUNNING_ON_VALGRIND) return; /* but one of the programs that start it */
@@ -27,9 +33,11 @@ __attribute__((constructor)) static void begin(void) {
         digits += *digits == ' ';
     }
     reads_secrets = getenv("READS") != NULL;
+    const char *length = getenv("PUBLIC");
+    if (length) public_length = (uint32_t)atoi(length);
     VALGRIND_DISABLE_ERROR_REPORTING;
     print_places(stderr);
-    const char *length = getenv("GROUP");
+    length = getenv("GROUP");
     if (length && *length != '-') {
         fprintf(stderr, "group %s 0 0\n", length);
         ct_group = 1;
@@ -51,9 +59,25 @@ static void look(void) {
     VALGRIND_ENABLE_ERROR_REPORTING;
 }
 
+/* Makes the length public wherever it stands, as 32 or 64 bits: on the stack, and in the registers that a call keeps, since this
+   function names them as changed and so stores them on the stack, perhaps in the 128 bytes below its pointer. A secret number that
+   equals the length by chance would become public too. */
+__attribute__((noinline)) static void declare_length(void) {
+    const uint32_t *at;
+    VALGRIND_DISABLE_ERROR_REPORTING;
+    __asm__ volatile("lea -128(%%rsp), %0" : "=r"(at) : : "rbx", "rbp", "r12", "r13", "r14", "r15", "memory");
+    for (; at < (const uint32_t *)__libc_stack_end; at++)
+        if (*at == public_length) (void)VALGRIND_MAKE_MEM_DEFINED(at, at[1] ? sizeof *at : 2 * sizeof *at);
+    VALGRIND_ENABLE_ERROR_REPORTING;
+}
+
+/* Whether there is such a length, and the key is decoded. */
+static int length_is_declared(void) { return public_length && found == secret_count; }
+
 void *malloc(size_t size) {
     static void *(*next)(size_t);
     if (!next) *(void **)&next = dlsym(RTLD_NEXT, "malloc");
+    if (length_is_declared()) declare_length();
     look();
     last_size = size;
     return last = next(size);
@@ -62,6 +86,7 @@ void *malloc(size_t size) {
 void free(void *block) {
     static void (*next)(void *);
     if (!next) *(void **)&next = dlsym(RTLD_NEXT, "free");
+    if (length_is_declared()) declare_length();
     if (block == last) last = NULL;
     next(block);
 }

@@ -20,6 +20,8 @@ KEYS = {"1": 32, "2": 16, "3": 24, "4": 32, "5": 16, "6": 32, "16": 16, "24": 24
 FILE_COMMANDS = [("seal-file", "ok"), ("open-file", "ok"), ("open-file", "no")]
 WRAP_COMMANDS = [(command + pad, variant) for pad in ("", " --pad")
                  for command, variant in (("wrap", "ok"), ("unwrap", "ok"), ("unwrap", "no"))]
+# The names of the library's calls. That of a command of the program is two words or more.
+OF_LIBRARY = r"\S+"
 # Under --short all calls of one suite of each construction, and of the others these. AES-192 has a schedule of its own.
 SHORT_SUITES = ("1", "2", "6", "16")
 SHORT_CALLS = r"seal_in_place|open_in_place|key_init|seal_with|wrap|unwrap"
@@ -216,6 +218,8 @@ def program_runs(cell, way):
                 else:
                     wrapped = bytes.fromhex(run(path, "wrap", *words).stdout)
                     words[-2:] = ["--sealed", forged(cell, wrapped, secret).hex()]
+                    if pad and way == "taint":
+                        variables["PUBLIC"] = str(length)
             else:
                 words = ["--suite", NAMES[cell.suite].lower(), "--key", key, "--nonce", "01" * 12, "--aad", "02" * 5,
                          "--in", f"{room}.in", "--out", f"{room}.out"]
@@ -249,9 +253,28 @@ def lines_of(path):
 
 
 def claims(cell):
-    """Whether the cell is claimed to have no site but verdicts: a word of --claimed is SUITE or SUITE:CALLS."""
+    """Whether the cell is claimed to have no site but verdicts: a word of --claimed is SUITE, for the library, or SUITE:CALLS."""
     words = [word.partition(":") for word in options.claimed.split()]
-    return any(suite == cell.suite and re.fullmatch(calls or ".*", cell.call) for suite, _, calls in words)
+    return any(suite == cell.suite and re.fullmatch(calls or OF_LIBRARY, cell.call) for suite, _, calls in words)
+
+
+def asked(suite, call):
+    """Whether a call of a suite is to be looked at."""
+    return suite in options.suites.split() and re.fullmatch(options.calls, call) and (
+        options.lengths == "whole" or suite in SHORT_SUITES or re.fullmatch(SHORT_CALLS, call))
+
+
+def program_cells(build):
+    """The program of a build, and its suites, commands and variants that are to be looked at."""
+    rows = [(suite, f"aeadkit {command}", variant) for suite in NAMES
+            for command, variant in (WRAP_COMMANDS if int(suite) > 6 else FILE_COMMANDS)]
+    rows = [row for row in rows if asked(*row[:2])]
+    path = f"{options.room}/{build}/aeadkit"
+    if rows and not os.path.exists(path):
+        print(f"left out: the program of the build {build}, which is not in PREFIX")
+        return []
+    target = Target(build, path, ["--version"], LD_PRELOAD=f"{options.room}/program.so") if rows else None
+    return [(target, *row) for row in rows]
 
 
 def all_cells(builds):
@@ -261,16 +284,10 @@ def all_cells(builds):
         folder = f"{options.room}/{build}"
         calls = Target(build, f"{folder}/calls", ["trace", "0", "-", "ok", "short"])
         rows = [(calls, *line.split()) for line in run(calls.path, "cells").stdout.splitlines()]
-        if os.path.exists(f"{folder}/aeadkit"):
-            program = Target(build, f"{folder}/aeadkit", ["--version"], LD_PRELOAD=f"{options.room}/program.so")
-            rows += [(program, suite, f"aeadkit {command}", variant) for suite in NAMES
-                     for command, variant in (WRAP_COMMANDS if int(suite) > 6 else FILE_COMMANDS)]
-        for target, suite, call, variant, *numbers in rows:
+        for target, suite, call, variant, *numbers in rows + program_cells(build):
             if suite == "0":
                 known[call] = [int(number) for number in numbers]
-            asked = suite in options.suites.split() and re.fullmatch(options.calls, call) and (
-                options.lengths == "whole" or suite in SHORT_SUITES or re.fullmatch(SHORT_CALLS, call))
-            if asked or suite == "0" and build == builds[0]:
+            if asked(suite, call) or suite == "0" and build == builds[0]:
                 cells[build, suite, call, variant] = Cell(target, suite, call, variant)
     return cells, known
 
@@ -329,7 +346,7 @@ def spans(at):
 
 def table(builds, counts, places):
     """The lines of the table: the numbers of each call, the functions that have a site, and the instructions."""
-    yield "# Instructions of the built library that depend on a secret"
+    yield "# Instructions that depend on a secret"
     yield ""
     rows = [["suite", "call"] + [f"{build}: {what}" for build in builds for what in ("branches", "addresses", "verdicts")]]
     for (suite, call, variant), of in sorted(counts.items(), key=lambda row: int(row[0][0])):
@@ -371,11 +388,12 @@ def main():
         list(pool.map(Cell.look, cells.values()))
     counts, places, failures, unused = judge(cells, known)
     lines = [*table(builds, counts, places), ""]
-    for target in dict.fromkeys(cell.target for cell in cells.values()):
+    for target in dict.fromkeys(cell.target for cell in cells.values() if cell.suite != "0"):
         if target.path.endswith("/calls"):
             lines += summary(target, [cell for cell in cells.values() if cell.target is target])
     if options.lengths == "whole":
-        lines += [f"not needed here: {' '.join(row[:2])} of verdicts.txt" for row in unused]
+        lines += [f"not needed here: {' '.join(row[:2])} of verdicts.txt" for row in unused
+                  if any(re.fullmatch(row[0], call) for _, _, call, _ in cells)]
     if options.write:
         with open(options.write, "w", encoding="utf-8") as out:
             out.writelines(line + "\n" for line in lines)
