@@ -1,7 +1,7 @@
 -- The blocks of a text as it grows.
 use Rattle.std.proofs.Common.{◌≡◌, ℕ, zero, suc, ◌+◌, ◌*◌, ◌/◌, ◌%◌, ◌<◌, ◌≤◌, List, [], ◌++◌, length, take}
 use Rattle.std.proofs.Common.{drop, get_or, refl, ap, ◌∙◌, arith, length-drop}
-use Rattle.std.proofs.lemmas.List.{take-append-le, drop-append-le, drop-drop, get_or-take, get_or-drop}
+use Rattle.std.proofs.lemmas.List.{take-append-le, drop-append-le, drop-drop}
 use Rattle.std.proofs.Math.Seq.{drop-append-add}
 use Rattle.std.specs.Simd.{first_chunks}
 use Rattle.octets.specs.Bytes.{block_at}
@@ -28,27 +28,3 @@ chunk_at n (suc k) (suc i) xs h =
     let e : n + i * n ≡ suc i * n = omega arith in
     chunk_at n k i (drop n xs) (omega arith) ∙ ap (take n) (drop-drop (i * n) n xs)
     ∙ ap (λ (j : ℕ). take n (drop j xs)) e
-
--- if blocks are cut into chunks of four, block j of chunk i is block 4i + j of the text
-pub four_at : (xs : List ℕ) (whole : List (List ℕ)) (fours : List (List (List ℕ))) (i j : ℕ)
-    → whole ≡ first_chunks 16 (length xs / 16) xs → length whole ≡ length xs / 16
-    → fours ≡ first_chunks 4 (length whole / 4) whole
-    → i < length whole / 4 → j < 4 → get_or (get_or fours i []) j [] ≡ block_at xs (i * 4 + j)
-four_at xs whole fours i j ew lw ef li lj =
-    ap (λ (y : List (List (List ℕ))). get_or (get_or y i []) j []) ef
-    ∙ ap (λ (y : List (List ℕ)). get_or y j []) (chunk_at 4 (length whole / 4) i whole li)
-    ∙ get_or-take 4 (drop (i * 4) whole) j [] lj ∙ get_or-drop (i * 4) whole j []
-    ∙ ap (λ (y : List (List ℕ)). get_or y (i * 4 + j) []) ew
-    ∙ chunk_at 16 (length xs / 16) (i * 4 + j) xs (omega arith)
-
--- block i after the chunks of four blocks
-pub after_fours : (xs : List ℕ) (whole rest : List (List ℕ)) (i : ℕ)
-    → whole ≡ first_chunks 16 (length xs / 16) xs → length whole ≡ length xs / 16
-    → rest ≡ drop (length whole / 4 * 4) whole
-    → i < length whole % 4 → get_or rest i [] ≡ block_at xs (length xs / 16 / 4 * 4 + i)
-after_fours xs whole rest i ew lw er li =
-    let at : length whole / 4 * 4 + i ≡ length xs / 16 / 4 * 4 + i = ap (λ (n : ℕ). n / 4 * 4 + i) lw in
-    ap (λ (y : List (List ℕ)). get_or y i []) er ∙ get_or-drop (length whole / 4 * 4) whole i []
-    ∙ ap (λ (n : ℕ). get_or whole n []) at
-    ∙ ap (λ (y : List (List ℕ)). get_or y (length xs / 16 / 4 * 4 + i) []) ew
-    ∙ chunk_at 16 (length xs / 16) (length xs / 16 / 4 * 4 + i) xs (omega arith)
