@@ -1,6 +1,6 @@
 -- Facts about the key and the nonce of a message, and about the bytes of it that are authenticated.
 use Rattle.std.proofs.Common.{◌≡◌, ℕ, ◌-◌, ◌^◌, ◌≤◌, List, length, take, drop, replicate, refl, sym, ap, subst, ◌∙◌, arith}
-use Rattle.std.proofs.Common.{◌⊎◌, inl, inr, ap₂, true, true≢false}
+use Rattle.std.proofs.Common.{ap₂, true, true≢false}
 use Rattle.std.proofs.lemmas.List.{take_all}
 use Rattle.octets.specs.Masked.{masked}
 use Rattle.octets.proofs.Masks.{length-masked}
@@ -106,18 +106,6 @@ pub tag_authenticated : (s : Setting) (tag body : List ℕ)
     → tag_over s.suite s.key s.nonce s.aad (authenticated_by (construction_of s.suite) (mask_of s tag) body)
     ≡ tag_of s (masked (mask_of s tag) 0 body)
 tag_authenticated s tag body = tag_authenticated_by (construction_of s.suite) s tag body refl
-
--- the suites of AES-GCM are of the construction GCM
-pub by_gcm : (suite : Suite) → (suite ≡ Aes128Gcm) ⊎ ((suite ≡ Aes192Gcm) ⊎ (suite ≡ Aes256Gcm))
-    → construction_of suite ≡ ByGcm
-by_gcm suite (inl e) = ap construction_of e
-by_gcm suite (inr (inl e)) = ap construction_of e
-by_gcm suite (inr (inr e)) = ap construction_of e
-
--- the suites of AES-GCM-SIV are of the construction GCM-SIV
-pub by_siv : (suite : Suite) → (suite ≡ Aes128GcmSiv) ⊎ (suite ≡ Aes256GcmSiv) → construction_of suite ≡ ByGcmSiv
-by_siv suite (inl e) = ap construction_of e
-by_siv suite (inr e) = ap construction_of e
 
 -- a key that serves POLYVAL under one key and nonce serves it under an equal key and nonce
 pub serves_under : (own_key own_nonce key nonce hash : List ℕ) → own_key ≡ key → own_nonce ≡ nonce

@@ -3,12 +3,10 @@ use Rattle.std.specs.Prelude.{ℕ, ◌-◌, ◌^◌, Bool, true, false, List, co
 use Rattle.aead.specs.declared.suite.Suite.{Suite}
 use Rattle.aead.specs.declared.suite.Suite.TheVariants.{ChaCha20Poly1305, Aes128Gcm, Aes192Gcm, Aes256Gcm}
 use Rattle.aead.specs.declared.suite.Suite.TheVariants.{Aes128GcmSiv, Aes256GcmSiv}
-
 -- the constructions: a suite is a construction with a key length
-pub data Construction : Type 0 where
-  ByChaCha : Construction
-  ByGcm : Construction
-  ByGcmSiv : Construction
+pub use Rattle.aead.specs.declared.suite.Construction.{Construction}
+pub use Rattle.aead.specs.declared.suite.Construction.TheVariants.{ChaChaPoly as ByChaCha, Gcm as ByGcm}
+pub use Rattle.aead.specs.declared.suite.Construction.TheVariants.{GcmSiv as ByGcmSiv}
 
 -- the construction of a suite
 abbrev pub construction_of : Suite → Construction

@@ -18,7 +18,7 @@ use crate::gcm_siv::GcmSiv;
 use crate::hashes::PolyKeys;
 use crate::keys::{AesKeys, CipherKeys, ExpandedKey, MessageKeys};
 use crate::pass_state::PassState;
-use crate::suite::Suite;
+use crate::suite::{Construction, Suite};
 use aes::AesKey;
 use octets::{Fault, Key32, Nonce, Tag};
 
@@ -91,16 +91,16 @@ impl AnyAead {
         if key.len() != suite.key_length() {
             return Err(Fault::KeyLength);
         }
-        match suite {
-            Suite::ChaCha20Poly1305 => {
+        match suite.construction() {
+            Construction::ChaChaPoly => {
                 let cipher = ChaChaPoly::new(&Key32::from_slice(key)?);
                 Ok(AnyAead::OnePass(AnyOnePass::ChaCha(cipher)))
             }
-            Suite::Aes128Gcm | Suite::Aes192Gcm | Suite::Aes256Gcm => {
+            Construction::Gcm => {
                 let cipher = Gcm::new(suite, AesKey::from_slice(key)?);
                 Ok(AnyAead::OnePass(AnyOnePass::Gcm(cipher)))
             }
-            Suite::Aes128GcmSiv | Suite::Aes256GcmSiv => {
+            Construction::GcmSiv => {
                 Ok(AnyAead::Siv(GcmSiv::new(suite, AesKey::from_slice(key)?)))
             }
         }

@@ -54,9 +54,9 @@ impl ChaChaPoly {
     }
 
     // Returns the inputs of one message: the key and the nonce.
-    pub(crate) fn nonced<'a>(&'a self, nonce: &'a Nonce) -> NoncedChaCha<'a>
-        ensures keyed { ⟦<NoncedChaCha<'a> as OnePass>⟧.keyed result ≡ self.now }
-        ensures nonce { ⟦<NoncedChaCha<'a> as OnePass>⟧.nonce result ≡ nonce.now }
+    pub(crate) fn nonced<'k, 'n>(&'k self, nonce: &'n Nonce) -> NoncedChaCha<'k, 'n>
+        ensures keyed { ⟦<NoncedChaCha<'k, 'n> as OnePass>⟧.keyed result ≡ self.now }
+        ensures nonce { ⟦<NoncedChaCha<'k, 'n> as OnePass>⟧.nonce result ≡ nonce.now }
     {
         NoncedChaCha {
             key: &self.key,
@@ -146,12 +146,12 @@ pub(crate) fn first_half(start: &[u8]) -> [u8; 32]
 
 // The inputs of one message: the key and the nonce.
 #[derive(Drop)]
-pub(crate) struct NoncedChaCha<'a> {
-    key: &'a Key32,
-    nonce: &'a Nonce,
+pub(crate) struct NoncedChaCha<'k, 'n> {
+    key: &'k Key32,
+    nonce: &'n Nonce,
 }
 
-impl<'a> OnePass for NoncedChaCha<'a> {
+impl<'k, 'n> OnePass for NoncedChaCha<'k, 'n> {
     type Stream = ChaStream;
 
     type Hash = Poly;

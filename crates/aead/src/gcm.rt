@@ -15,10 +15,9 @@ ghost use Rattle.aead.specs.InPlace.{OpensInPlace};
 use crate::aead::Aead;
 use crate::derived_keys::joined;
 use crate::hashes::GhashTag;
-use crate::multiples::{Multiples, worth};
 use crate::one_pass::{OnePass, open_whole, seal_whole};
 use crate::suite::Suite;
-use aes::{AesKey, CtrBe, KeptKey, KnownBlock};
+use aes::{AesKey, CtrBe, KnownBlock};
 use gf128::{Ghash, Keyed128, Multiply, TableMul, WideMul};
 use octets::{Block, Fault, Nonce, Tag};
 use std::marker::Model;
@@ -29,7 +28,6 @@ use std::marker::Model;
 pub struct Gcm {
     key: AesKey,
     ghash_key: Block,
-    // The small table, for short texts.
     multiplier: TableMul,
     // Behind the key: before it, the bytes between them make LLVM move the key twice.
     suite: Suite,
@@ -45,28 +43,6 @@ impl Model for Gcm {
 }
 
 impl Gcm {
-    /// AES-GCM under a key of 16, 24 or 32 bytes: the suite of AES-128, AES-192 or AES-256. Any other length is
-    /// `KeyLength`, the only fault.
-    #[inline(always)]
-    pub fn from_slice(key: &[u8]) -> Result<Gcm, Fault>
-        ensures { MatchResult result
-            (λ c. (c.key ≡ key.now) × (construction_of c.suite ≡ ByGcm)
-            × (length key.now ≡ key_length c.suite))
-            (λ e. (e ≡ Fault.KeyLength)
-            × ((suite : Suite) → construction_of suite ≡ ByGcm → length key.now ≢ key_length suite)) }
-    {
-        let suite = match key.len() {
-            16 => Suite::Aes128Gcm,
-            24 => Suite::Aes192Gcm,
-            32 => Suite::Aes256Gcm,
-            _ => return Err(Fault::KeyLength),
-        };
-        match AesKey::from_slice(key) {
-            Ok(key) => Ok(Gcm::new(suite, key)),
-            Err(fault) => Err(fault),
-        }
-    }
-
     // Returns the cipher of one of the three suites under a key.
     #[inline(always)]
     pub(crate) fn new(suite: Suite, key: AesKey) -> Gcm
@@ -82,37 +58,20 @@ impl Gcm {
         }
     }
 
-    // Borrows everything that this cipher holds.
-    #[inline(always)]
-    fn borrowed<'a>(&'a self) -> BorrowedGcm<'a, &'a TableMul>
-        ensures { ⟦<BorrowedGcm<'a, &'a TableMul> as Aead>⟧.keyed result ≡ self.now }
-    {
-        BorrowedGcm::new(self.suite, &self.key, &self.ghash_key, &self.multiplier)
-    }
-
-    // Returns the key.
-    pub(crate) fn key(&self) -> &AesKey
-        ensures { result.now ≡ self.now.key }
-    {
-        &self.key
-    }
-
-    // Returns the inputs of one message: the cipher, the nonce, the key, which is held or borrowed, and a multiplier by the hash key.
-    pub(crate) fn nonced<'a, M: Multiply + Copy, K: KeptKey + Copy>(
-        &self,
-        nonce: &'a Nonce,
-        key: K,
+    // Returns the inputs of one message: the cipher, the nonce, and a multiplier by the hash key.
+    pub(crate) fn nonced<'k, 'n, M: Multiply + Copy>(
+        &'k self,
+        nonce: &'n Nonce,
         multiplier: M,
-    ) -> NoncedGcm<'a, M, K>
-        requires key { K.bytes key ≡ self.now.key }
-        requires multiplier { M.key_bytes multiplier ≡ hash_key self.now.key }
+    ) -> NoncedGcm<'k, 'n, M>
+        requires { M.key_bytes multiplier ≡ hash_key self.now.key }
         ensures key { IsKey self.now.key }
-        ensures keyed { ⟦<NoncedGcm<'a, M, K> as OnePass>⟧.keyed result ≡ self.now }
-        ensures nonce { ⟦<NoncedGcm<'a, M, K> as OnePass>⟧.nonce result ≡ nonce.now }
+        ensures keyed { ⟦<NoncedGcm<'k, 'n, M> as OnePass>⟧.keyed result ≡ self.now }
+        ensures nonce { ⟦<NoncedGcm<'k, 'n, M> as OnePass>⟧.nonce result ≡ nonce.now }
     {
         NoncedGcm {
             suite: self.suite,
-            key,
+            key: &self.key,
             nonce,
             multiplier,
         }
@@ -129,12 +88,12 @@ impl Gcm {
         (&self.key, &self.ghash_key, &self.multiplier)
     }
 
-    // Returns a multiplier by the hash key. This is inlined, since a large one would be moved.
+    // Returns a multiplier by the hash key for a long text. This is inlined, since it would be moved.
     #[inline(always)]
-    pub(crate) fn multiplier_of<M: Keyed128>(&self) -> M
-        ensures { M.key_bytes result ≡ hash_key self.now.key }
+    pub(crate) fn wide_multiplier(&self) -> WideMul
+        ensures { ⟦<WideMul as Multiply>⟧.key_bytes result ≡ hash_key self.now.key }
     {
-        M::of(&self.ghash_key)
+        WideMul::of(&self.ghash_key)
     }
 }
 
@@ -159,10 +118,15 @@ pub(crate) fn hash_keys(key: &AesKey, ghash_key: &Block, nonce: &Nonce) -> [u8; 
 }
 
 // Returns the mask of a message, after its first `done` bytes.
-pub(crate) fn mask_at<K: KeptKey>(key: K, nonce: &Nonce, done: u64, known: &KnownBlock) -> CtrBe<K>
+pub(crate) fn mask_at<'k>(
+    key: &'k AesKey,
+    nonce: &Nonce,
+    done: u64,
+    known: &KnownBlock,
+) -> CtrBe<'k>
     requires { done < 2 ^ 63 }
-    ensures { (s : Setting) (tag : List ℕ) → construction_of s.suite ≡ ByGcm → s.key ≡ K.bytes key
-        → s.nonce ≡ nonce.now → KnowsCipher known.now s.key → MadeByGcm K.bytes result s tag done }
+    ensures { (s : Setting) (tag : List ℕ) → construction_of s.suite ≡ ByGcm → s.key ≡ key.now
+        → s.nonce ≡ nonce.now → KnowsCipher known.now s.key → MadeByGcm result s tag done }
 {
     CtrBe::at_known(key, &counter_block(nonce, 2), done, known)
 }
@@ -181,21 +145,21 @@ pub(crate) fn counter_block(nonce: &Nonce, counter: u8) -> Block
 
 // The inputs of one message: the suite, the key, the nonce, and a multiplier by the hash key.
 #[derive(Drop)]
-pub(crate) struct NoncedGcm<'a, M: Multiply, K: KeptKey> {
+pub(crate) struct NoncedGcm<'k, 'n, M: Multiply> {
     suite: Suite,
-    key: K,
-    nonce: &'a Nonce,
+    key: &'k AesKey,
+    nonce: &'n Nonce,
     multiplier: M,
     ghost by_gcm: { construction_of suite ≡ ByGcm },
-    ghost multiplier_is: { M.key_bytes multiplier ≡ hash_key (K.bytes key) },
+    ghost multiplier_is: { M.key_bytes multiplier ≡ hash_key key.now },
 }
 
-impl<'a, M: Multiply + Copy, K: KeptKey + Copy> OnePass for NoncedGcm<'a, M, K> {
-    type Stream = CtrBe<K>;
+impl<'k, 'n, M: Multiply + Copy> OnePass for NoncedGcm<'k, 'n, M> {
+    type Stream = CtrBe<'k>;
 
     type Hash = GhashTag<M>;
 
-    ghost keyed = { λ m. record { suite = m.suite; key = K.bytes m.key } };
+    ghost keyed = { λ m. record { suite = m.suite; key = m.key.now } };
 
     ghost nonce = { λ m. m.nonce.now };
 
@@ -207,102 +171,62 @@ impl<'a, M: Multiply + Copy, K: KeptKey + Copy> OnePass for NoncedGcm<'a, M, K> 
     fn hash(&self) -> GhashTag<M> {
         GhashTag {
             hash: Ghash::with(self.multiplier),
-            mask: self
-                .key
-                .kept()
-                .encrypt_in_registers(&counter_block(self.nonce, 1)),
+            mask: self.key.encrypt_in_registers(&counter_block(self.nonce, 1)),
         }
     }
 
     #[inline(always)]
-    fn mask(&self) -> CtrBe<K> {
+    fn mask(&self) -> CtrBe<'k> {
         CtrBe::new(self.key, &counter_block(self.nonce, 2))
     }
 
     ghost one_pass = { λ n. ap is_one_pass n.by_gcm };
 }
 
-/// AES-GCM (SP 800-38D) by a key's schedule and its hash subkey, which the caller keeps. The table that hashes a message is made
-/// of the hash subkey for it, a larger one for a long message. Opening in place authenticates before it changes a byte.
+/// AES-GCM (SP 800-38D) by a key's schedule and a multiplier by its hash subkey, which the caller keeps, as a [`Gcm`] keeps its own.
+/// Opening in place authenticates before it changes a byte.
 #[derive(Drop)]
-pub struct GcmKeys<'a> {
+pub struct BorrowedGcm<'k, M: Multiply> {
     suite: Suite,
-    key: &'a AesKey,
-    ghash_key: &'a Block,
+    key: &'k AesKey,
+    multiplier: M,
     ghost by_gcm: { construction_of suite ≡ ByGcm },
-    ghost ghash_key_is: { ghash_key.now ≡ hash_key key.now },
+    ghost multiplier_is: { M.key_bytes multiplier ≡ hash_key key.now },
 }
 
-impl<'a> GcmKeys<'a> {
-    /// AES-GCM of one of its three suites, by a key of the suite's length, 16, 24 or 32 bytes, and its [`hash_subkey`].
+impl<'k, M: Multiply + Copy> BorrowedGcm<'k, M> {
+    /// AES-GCM of one of its three suites, by a key of the suite's length, 16, 24 or 32 bytes, and a multiplier by its
+    /// [`hash_subkey`].
     #[inline(always)]
-    pub fn new(suite: Suite, key: &'a AesKey, ghash_key: &'a Block) -> GcmKeys<'a>
+    pub fn new(suite: Suite, key: &'k AesKey, multiplier: M) -> BorrowedGcm<'k, M>
         requires by_gcm { construction_of suite ≡ ByGcm }
-        requires ghash_key { ghash_key.now ≡ hash_key key.now }
-        ensures { ⟦<GcmKeys<'a> as Aead>⟧.keyed result ≡ record { suite = suite; key = key.now } }
+        requires multiplier { M.key_bytes multiplier ≡ hash_key key.now }
+        ensures { ⟦<BorrowedGcm<'k, M> as Aead>⟧.keyed result ≡ record { suite = suite; key = key.now } }
     {
-        GcmKeys {
+        BorrowedGcm {
             suite,
             key,
-            ghash_key,
+            multiplier,
         }
     }
 
-    // Returns the inputs of one message, with this multiplier by the hash key.
+    // Returns the inputs of one message.
     #[inline(always)]
-    fn nonced<'b, N: Multiply + Copy>(
-        &self,
-        nonce: &'b Nonce,
-        multiplier: N,
-    ) -> NoncedGcm<'b, N, &'a AesKey>
-        requires { N.key_bytes multiplier ≡ hash_key self.now.key.now }
-        ensures keyed { ⟦<NoncedGcm<'b, N, &'a AesKey> as OnePass>⟧.keyed result
-            ≡ ⟦<GcmKeys<'a> as Aead>⟧.keyed self.now }
-        ensures nonce { ⟦<NoncedGcm<'b, N, &'a AesKey> as OnePass>⟧.nonce result ≡ nonce.now }
+    fn nonced<'n>(&self, nonce: &'n Nonce) -> NoncedGcm<'k, 'n, M>
+        ensures keyed { ⟦<NoncedGcm<'k, 'n, M> as OnePass>⟧.keyed result
+            ≡ ⟦<BorrowedGcm<'k, M> as Aead>⟧.keyed self.now }
+        ensures nonce { ⟦<NoncedGcm<'k, 'n, M> as OnePass>⟧.nonce result ≡ nonce.now }
     {
         NoncedGcm {
             suite: self.suite,
             key: self.key,
             nonce,
-            multiplier,
+            multiplier: self.multiplier,
         }
-    }
-
-    // Seals a text, and multiplies by the hash key with a multiplier of the type `N`. It is not inlined, so that the large table
-    // is on the stack only for a long text.
-    #[inline(never)]
-    fn seal_by<N: Keyed128>(&self, nonce: &Nonce, aad: &[u8], text: &mut [u8]) -> Tag
-        requires aad_fits { length aad.now ≤ aad_limit self.now.suite }
-        requires text_fits { length text.old ≤ text_limit self.now.suite }
-        ensures { Opened (setting (⟦<GcmKeys<'a> as Aead>⟧.keyed self.now) nonce.now aad.now) (text.new ++ result)
-            text.old }
-    {
-        let mut multiplier = N::none();
-        multiplier.set(self.ghash_key);
-        seal_whole(&self.nonced(nonce, &multiplier), aad, text)
-    }
-
-    // Opens a ciphertext, and multiplies by the hash key with a multiplier of the type `N`. It is not inlined, for the same reason.
-    #[inline(never)]
-    fn open_by<N: Keyed128>(
-        &self,
-        nonce: &Nonce,
-        aad: &[u8],
-        body: &mut [u8],
-        tag: &Tag,
-    ) -> Result<(), Fault>
-        requires aad_fits { length aad.now ≤ aad_limit self.now.suite }
-        requires text_fits { length body.old ≤ text_limit self.now.suite }
-        ensures { OpensInPlace (setting (⟦<GcmKeys<'a> as Aead>⟧.keyed self.now) nonce.now aad.now) tag.now body.old
-            body.new result }
-    {
-        let mut multiplier = N::none();
-        multiplier.set(self.ghash_key);
-        open_whole(&self.nonced(nonce, &multiplier), aad, body, tag)
     }
 }
 
-impl<'a> Aead for GcmKeys<'a> {
+impl<'k, M: Multiply + Copy> Aead for BorrowedGcm<'k, M> {
     ghost keyed = { λ c. record { suite = c.suite; key = c.key.now } };
 
     fn suite(&self) -> Suite {
@@ -310,13 +234,7 @@ impl<'a> Aead for GcmKeys<'a> {
     }
 
     fn seal_fitting(&self, nonce: &Nonce, aad: &[u8], text: &mut [u8]) -> Tag {
-        match worth((aad.len() + text.len()) as u64) {
-            Multiples::Few => {
-                let few = TableMul::of(self.ghash_key);
-                seal_whole(&self.nonced(nonce, &few), aad, text)
-            }
-            Multiples::OfFourPowers => self.seal_by::<WideMul>(nonce, aad, text),
-        }
+        seal_whole(&self.nonced(nonce), aad, text)
     }
 
     fn open_fitting(
@@ -326,77 +244,7 @@ impl<'a> Aead for GcmKeys<'a> {
         body: &mut [u8],
         tag: &Tag,
     ) -> Result<(), Fault> {
-        match worth((aad.len() + body.len()) as u64) {
-            Multiples::Few => {
-                let few = TableMul::of(self.ghash_key);
-                open_whole(&self.nonced(nonce, &few), aad, body, tag)
-            }
-            Multiples::OfFourPowers => self.open_by::<WideMul>(nonce, aad, body, tag),
-        }
-    }
-}
-
-/// AES-GCM (SP 800-38D) by a key's schedule, its hash subkey and a multiplier by that, which the caller keeps, as a [`Gcm`]
-/// keeps its own. A long message is hashed by a larger table, which is made of the hash subkey for the message. Opening in
-/// place authenticates before it changes a byte.
-#[derive(Drop)]
-pub struct BorrowedGcm<'a, M: Multiply> {
-    keys: GcmKeys<'a>,
-    multiplier: M,
-    ghost multiplier_is: { M.key_bytes multiplier ≡ hash_key keys.key.now },
-}
-
-impl<'a, M: Multiply + Copy> BorrowedGcm<'a, M> {
-    /// AES-GCM of one of its three suites, by a key of the suite's length, 16, 24 or 32 bytes, its [`hash_subkey`] and a
-    /// multiplier by that.
-    #[inline(always)]
-    pub fn new(
-        suite: Suite,
-        key: &'a AesKey,
-        ghash_key: &'a Block,
-        multiplier: M,
-    ) -> BorrowedGcm<'a, M>
-        requires by_gcm { construction_of suite ≡ ByGcm }
-        requires ghash_key { ghash_key.now ≡ hash_key key.now }
-        requires multiplier { M.key_bytes multiplier ≡ hash_key key.now }
-        ensures { ⟦<BorrowedGcm<'a, M> as Aead>⟧.keyed result ≡ record { suite = suite; key = key.now } }
-    {
-        BorrowedGcm {
-            keys: GcmKeys {
-                suite,
-                key,
-                ghash_key,
-            },
-            multiplier,
-        }
-    }
-}
-
-impl<'a, M: Multiply + Copy> Aead for BorrowedGcm<'a, M> {
-    ghost keyed = { λ c. record { suite = c.keys.suite; key = c.keys.key.now } };
-
-    fn suite(&self) -> Suite {
-        self.keys.suite
-    }
-
-    fn seal_fitting(&self, nonce: &Nonce, aad: &[u8], text: &mut [u8]) -> Tag {
-        match worth((aad.len() + text.len()) as u64) {
-            Multiples::Few => seal_whole(&self.keys.nonced(nonce, self.multiplier), aad, text),
-            Multiples::OfFourPowers => self.keys.seal_by::<WideMul>(nonce, aad, text),
-        }
-    }
-
-    fn open_fitting(
-        &self,
-        nonce: &Nonce,
-        aad: &[u8],
-        body: &mut [u8],
-        tag: &Tag,
-    ) -> Result<(), Fault> {
-        match worth((aad.len() + body.len()) as u64) {
-            Multiples::Few => open_whole(&self.keys.nonced(nonce, self.multiplier), aad, body, tag),
-            Multiples::OfFourPowers => self.keys.open_by::<WideMul>(nonce, aad, body, tag),
-        }
+        open_whole(&self.nonced(nonce), aad, body, tag)
     }
 }
 
@@ -411,7 +259,7 @@ impl Aead for Gcm {
     }
 
     fn seal_fitting(&self, nonce: &Nonce, aad: &[u8], text: &mut [u8]) -> Tag {
-        self.borrowed().seal_fitting(nonce, aad, text)
+        seal_whole(&self.nonced(nonce, &self.multiplier), aad, text)
     }
 
     fn open_fitting(
@@ -421,6 +269,6 @@ impl Aead for Gcm {
         body: &mut [u8],
         tag: &Tag,
     ) -> Result<(), Fault> {
-        self.borrowed().open_fitting(nonce, aad, body, tag)
+        open_whole(&self.nonced(nonce, &self.multiplier), aad, body, tag)
     }
 }

@@ -12,10 +12,9 @@ use crate::beside::Order;
 use crate::gcm::{hash_keys, mask_at};
 use crate::hashes::GhashKeys;
 use crate::keys::{AesKeys, ExpandedKey, KeyBytes};
-use crate::multiples::{Multiples, worth};
 use crate::pass_state::PassState;
 use aes::{AesKey, KnownBlock};
-use gf128::{Keyed128, TableMul, WideMul};
+use gf128::{Keyed128, TableMul};
 use octets::{Block, Nonce, Tag};
 
 // The initial state for a nonce and associated data.
@@ -69,32 +68,29 @@ pub(crate) fn initial_state_by_key(
     }
 }
 
-// Masks and authenticates a piece with a multiplier of type `M` that is made here, so that only this call has it on its stack.
-#[inline(never)]
-fn mask_by<M: Keyed128>(
+// Masks and authenticates a piece with a key schedule and a table.
+fn mask_expanded(
     state: &mut PassState,
-    key: &AesKey,
+    keys: ExpandedKey,
     nonce: &Nonce,
     known: &mut KnownBlock,
     order: Order,
     piece: &mut [u8],
 )
     requires { state.old.length + length piece.old ≤ 2 ^ 36 }
-    ensures { (s : Setting) (tag fed : List ℕ) → construction_of s.suite ≡ ByGcm → key.now ≡ s.key
-        → nonce.now ≡ s.nonce
+    ensures { (s : Setting) (tag fed : List ℕ) → construction_of s.suite ≡ ByGcm
+        → AreGcmKeys (AesKeys.Expanded keys.entry) s → nonce.now ≡ s.nonce
         → MasksPieceKnowing (hashed_by order) state.old state.new known.old known.new piece.old piece.new s.key s tag fed }
 {
-    let mut multiplier = M::none();
-    multiplier.set(&state.multiplier_key());
-    let keys = GhashKeys {
-        multiplier: &multiplier,
+    let hash_keys = GhashKeys {
+        multiplier: keys.few,
     };
-    let mut mask = mask_at(key, nonce, state.length, known);
-    state.step(&keys, &mut mask, order, piece);
+    let mut mask = mask_at(keys.key, nonce, state.length, known);
+    state.step(&hash_keys, &mut mask, order, piece);
     mask.set_known(known);
 }
 
-// Masks and authenticates a piece under the bytes of a key. Only this call has the key schedule on its stack.
+// Masks and authenticates a piece under the bytes of a key. Only this call has the key schedule and the table on its stack.
 #[inline(never)]
 fn mask_anew(
     state: &mut PassState,
@@ -110,37 +106,12 @@ fn mask_anew(
         → MasksPieceKnowing (hashed_by order) state.old state.new known.old known.new piece.old piece.new s.key s tag fed }
 {
     let key = bytes.schedule();
-    match worth(piece.len() as u64) {
-        Multiples::Few => mask_by::<TableMul>(state, &key, nonce, known, order, piece),
-        Multiples::OfFourPowers => mask_by::<WideMul>(state, &key, nonce, known, order, piece),
-    }
-}
-
-// Masks and authenticates a piece with a key schedule, and with the small table if the piece is short.
-fn mask_expanded(
-    state: &mut PassState,
-    keys: ExpandedKey,
-    nonce: &Nonce,
-    known: &mut KnownBlock,
-    order: Order,
-    piece: &mut [u8],
-)
-    requires { state.old.length + length piece.old ≤ 2 ^ 36 }
-    ensures { (s : Setting) (tag fed : List ℕ) → construction_of s.suite ≡ ByGcm
-        → AreGcmKeys (AesKeys.Expanded keys.entry) s → nonce.now ≡ s.nonce
-        → MasksPieceKnowing (hashed_by order) state.old state.new known.old known.new piece.old piece.new s.key s tag fed }
-{
-    match worth(piece.len() as u64) {
-        Multiples::Few => {
-            let hash_keys = GhashKeys {
-                multiplier: keys.few,
-            };
-            let mut mask = mask_at(keys.key, nonce, state.length, known);
-            state.step(&hash_keys, &mut mask, order, piece);
-            mask.set_known(known);
-        }
-        Multiples::OfFourPowers => mask_by::<WideMul>(state, keys.key, nonce, known, order, piece),
-    }
+    let few = TableMul::of(&state.multiplier_key());
+    let keys = ExpandedKey {
+        key: &key,
+        few: &few,
+    };
+    mask_expanded(state, keys, nonce, known, order, piece);
 }
 
 // Masks and authenticates a piece.
@@ -164,39 +135,35 @@ pub(crate) fn mask(
     }
 }
 
-// Authenticates a piece with a multiplier of type `M` that is made here, so that only this call has it on its stack.
+// Authenticates a piece with a table that is made here. GHASH needs no key schedule.
 #[inline(never)]
-fn take_by<M: Keyed128>(state: &mut PassState, piece: &[u8])
+fn take_anew(state: &mut PassState, piece: &[u8])
     requires { state.old.length + length piece.now < 2 ^ 64 }
     ensures { (s : Setting) (bytes : List ℕ) → construction_of s.suite ≡ ByGcm
         → TakesPiece state.old state.new piece.now s bytes }
 {
-    let mut multiplier = M::none();
-    multiplier.set(&state.multiplier_key());
+    let multiplier = TableMul::of(&state.multiplier_key());
     let keys = GhashKeys {
         multiplier: &multiplier,
     };
     state.take(&keys, piece);
 }
 
-// Authenticates a piece. GHASH needs no key schedule.
+// Authenticates a piece.
 #[inline(always)]
 pub(crate) fn take(state: &mut PassState, keys: AesKeys, piece: &[u8])
     requires { state.old.length + length piece.now < 2 ^ 64 }
     ensures { (s : Setting) (bytes : List ℕ) → construction_of s.suite ≡ ByGcm → AreGcmKeys keys.entry s
         → TakesPiece state.old state.new piece.now s bytes }
 {
-    match worth(piece.len() as u64) {
-        Multiples::Few => match keys {
-            AesKeys::Expanded(keys) => {
-                let hash_keys = GhashKeys {
-                    multiplier: keys.few,
-                };
-                state.take(&hash_keys, piece);
-            }
-            AesKeys::Bytes(_) => take_by::<TableMul>(state, piece),
-        },
-        Multiples::OfFourPowers => take_by::<WideMul>(state, piece),
+    match keys {
+        AesKeys::Expanded(keys) => {
+            let hash_keys = GhashKeys {
+                multiplier: keys.few,
+            };
+            state.take(&hash_keys, piece);
+        }
+        AesKeys::Bytes(_) => take_anew(state, piece),
     }
 }
 

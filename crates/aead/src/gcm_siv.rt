@@ -16,11 +16,10 @@ ghost use Rattle.aead.specs.Code.States.{MadeByGcmSiv};
 use crate::aead::Aead;
 use crate::derived_keys::DerivedKeys;
 use crate::hashes::PolyvalTag;
-use crate::multiples::{Multiples, worth};
 use crate::suite::Suite;
 use crate::two_pass::{TwoPass, open_whole, seal_whole};
-use aes::{AesKey, CtrLe, KeptKey, KnownBlock};
-use gf128::{Keyed128, Multiply, Polyval, TableMul, WideMul};
+use aes::{AesKey, CtrLe, KnownBlock};
+use gf128::{Keyed128, Multiply, Polyval, TableMul};
 use octets::{Block, Fault, Nonce, Tag};
 use std::marker::Model;
 
@@ -41,27 +40,6 @@ impl Model for GcmSiv {
 }
 
 impl GcmSiv {
-    /// AES-GCM-SIV under a key of 16 or 32 bytes: the suite of AES-128 or AES-256. Any other length is
-    /// `KeyLength`, the only fault.
-    #[inline(always)]
-    pub fn from_slice(key: &[u8]) -> Result<GcmSiv, Fault>
-        ensures { MatchResult result
-            (λ c. (c.key ≡ key.now) × (construction_of c.suite ≡ ByGcmSiv)
-            × (length key.now ≡ key_length c.suite))
-            (λ e. (e ≡ Fault.KeyLength)
-            × ((suite : Suite) → construction_of suite ≡ ByGcmSiv → length key.now ≢ key_length suite)) }
-    {
-        let suite = match key.len() {
-            16 => Suite::Aes128GcmSiv,
-            32 => Suite::Aes256GcmSiv,
-            _ => return Err(Fault::KeyLength),
-        };
-        match AesKey::from_slice(key) {
-            Ok(key) => Ok(GcmSiv::new(suite, key)),
-            Err(fault) => Err(fault),
-        }
-    }
-
     /// AES-GCM-SIV of one of its two suites, under a key of the suite's length, 16 or 32 bytes.
     #[inline(always)]
     pub fn new(suite: Suite, key: AesKey) -> GcmSiv
@@ -92,18 +70,18 @@ impl GcmSiv {
 
     // Returns the inputs of one message: the cipher, the nonce, the message's encryption key, and a multiplier by its
     // authentication key.
-    pub(crate) fn nonced<'a, M: Multiply + Copy, K: KeptKey + Copy>(
-        &'a self,
-        nonce: &'a Nonce,
-        encryption: K,
+    pub(crate) fn nonced<'k, 'n, M: Multiply + Copy>(
+        &'k self,
+        nonce: &'n Nonce,
+        encryption: &'k AesKey,
         multiplier: M,
-    ) -> NoncedGcmSiv<'a, M, K>
-        requires encryption { K.bytes encryption ≡ encryption_key self.now.key nonce.now }
+    ) -> NoncedGcmSiv<'k, 'n, M>
+        requires encryption { encryption.now ≡ encryption_key self.now.key nonce.now }
         requires block { IsBlock (authentication_key self.now.key nonce.now) }
         requires multiplier { IsReversedMulX (authentication_key self.now.key nonce.now)
             (M.key_bytes multiplier) }
-        ensures keyed { ⟦<NoncedGcmSiv<'a, M, K> as TwoPass>⟧.keyed result ≡ self.now }
-        ensures nonce { ⟦<NoncedGcmSiv<'a, M, K> as TwoPass>⟧.nonce result ≡ nonce.now }
+        ensures keyed { ⟦<NoncedGcmSiv<'k, 'n, M> as TwoPass>⟧.keyed result ≡ self.now }
+        ensures nonce { ⟦<NoncedGcmSiv<'k, 'n, M> as TwoPass>⟧.nonce result ≡ nonce.now }
     {
         NoncedGcmSiv {
             suite: self.suite,
@@ -112,48 +90,6 @@ impl GcmSiv {
             encryption,
             multiplier,
         }
-    }
-
-    // Seals a text, and multiplies by the hash key with a multiplier of the type `M`. It is not inlined, so that the large table
-    // is on the stack only for a long text.
-    #[inline(never)]
-    fn seal_by<M: Keyed128>(&self, nonce: &Nonce, aad: &[u8], text: &mut [u8]) -> Tag
-        requires aad_fits { length aad.now ≤ aad_limit self.now.suite }
-        requires text_fits { length text.old ≤ text_limit self.now.suite }
-        ensures { Opened (setting self.now nonce.now aad.now) (text.new ++ result) text.old }
-    {
-        let keys = self.derive(nonce);
-        let mut multiplier = M::none();
-        multiplier.set(&keys.hash_key);
-        seal_whole(
-            &self.nonced(nonce, &keys.encryption, &multiplier),
-            aad,
-            text,
-        )
-    }
-
-    // Opens a ciphertext, and multiplies by the hash key with a multiplier of the type `M`. It is not inlined, for the same reason.
-    #[inline(never)]
-    fn open_by<M: Keyed128>(
-        &self,
-        nonce: &Nonce,
-        aad: &[u8],
-        body: &mut [u8],
-        tag: &Tag,
-    ) -> Result<(), Fault>
-        requires aad_fits { length aad.now ≤ aad_limit self.now.suite }
-        requires text_fits { length body.old ≤ text_limit self.now.suite }
-        ensures { OpensInPlace (setting self.now nonce.now aad.now) tag.now body.old body.new result }
-    {
-        let keys = self.derive(nonce);
-        let mut multiplier = M::none();
-        multiplier.set(&keys.hash_key);
-        open_whole(
-            &self.nonced(nonce, &keys.encryption, &multiplier),
-            aad,
-            body,
-            tag,
-        )
     }
 }
 
@@ -168,49 +104,49 @@ pub(crate) fn counter_block(tag: &[u8; 16]) -> [u8; 16]
 
 // Returns the mask of the message with this tag (RFC 8452, 4).
 #[inline(always)]
-pub(crate) fn tag_mask<K: KeptKey>(encryption: K, tag: &Tag) -> CtrLe<K>
+pub(crate) fn tag_mask<'k>(encryption: &'k AesKey, tag: &Tag) -> CtrLe<'k>
     ensures { (s : Setting) → construction_of s.suite ≡ ByGcmSiv
-        → K.bytes encryption ≡ encryption_key s.key s.nonce
-        → MadeByGcmSiv K.bytes result s tag.now 0 }
+        → encryption.now ≡ encryption_key s.key s.nonce
+        → MadeByGcmSiv result s tag.now 0 }
 {
     CtrLe::new(encryption, &Block::new(counter_block(tag.bytes())))
 }
 
 // Returns the mask of the message with this tag, after its first `done` bytes.
 #[inline(always)]
-pub(crate) fn mask_at<K: KeptKey>(
-    encryption: K,
+pub(crate) fn mask_at<'k>(
+    encryption: &'k AesKey,
     tag: &[u8; 16],
     done: u64,
     known: &KnownBlock,
-) -> CtrLe<K>
+) -> CtrLe<'k>
     requires { done < 2 ^ 63 }
     ensures { (s : Setting) → construction_of s.suite ≡ ByGcmSiv
-        → K.bytes encryption ≡ encryption_key s.key s.nonce → KnowsCipher known.now (K.bytes encryption)
-        → MadeByGcmSiv K.bytes result s tag.now done }
+        → encryption.now ≡ encryption_key s.key s.nonce → KnowsCipher known.now encryption.now
+        → MadeByGcmSiv result s tag.now done }
 {
     CtrLe::at_known(encryption, &Block::new(counter_block(tag)), done, known)
 }
 
 // The inputs of one message: the suite, the key, the nonce, the message's encryption key, and a multiplier by its authentication key.
 #[derive(Drop)]
-pub(crate) struct NoncedGcmSiv<'a, M: Multiply, K: KeptKey> {
+pub(crate) struct NoncedGcmSiv<'k, 'n, M: Multiply> {
     suite: Suite,
-    key: &'a AesKey,
-    nonce: &'a Nonce,
-    encryption: K,
+    key: &'k AesKey,
+    nonce: &'n Nonce,
+    encryption: &'k AesKey,
     multiplier: M,
     ghost by_gcm_siv: { construction_of suite ≡ ByGcmSiv },
-    ghost encryption_is: { K.bytes encryption ≡ encryption_key key.now nonce.now },
+    ghost encryption_is: { encryption.now ≡ encryption_key key.now nonce.now },
     ghost block: { IsBlock (authentication_key key.now nonce.now) },
     ghost multiplier_is: { ∥ IsReversedMulX (authentication_key key.now nonce.now) (M.key_bytes multiplier)
         ∥₁ },
 }
 
-impl<'a, M: Multiply + Copy, K: KeptKey + Copy> TwoPass for NoncedGcmSiv<'a, M, K> {
-    type Stream = CtrLe<K>;
+impl<'k, 'n, M: Multiply + Copy> TwoPass for NoncedGcmSiv<'k, 'n, M> {
+    type Stream = CtrLe<'k>;
 
-    type Hash = PolyvalTag<M, K>;
+    type Hash = PolyvalTag<M, &'k AesKey>;
 
     ghost keyed = { λ m. record { suite = m.suite; key = m.key.now } };
 
@@ -221,7 +157,7 @@ impl<'a, M: Multiply + Copy, K: KeptKey + Copy> TwoPass for NoncedGcmSiv<'a, M, 
     }
 
     #[inline(always)]
-    fn hash(&self) -> PolyvalTag<M, K> {
+    fn hash(&self) -> PolyvalTag<M, &'k AesKey> {
         PolyvalTag {
             hash: Polyval::with(self.multiplier),
             key: self.encryption,
@@ -230,7 +166,7 @@ impl<'a, M: Multiply + Copy, K: KeptKey + Copy> TwoPass for NoncedGcmSiv<'a, M, 
     }
 
     #[inline(always)]
-    fn mask(&self, tag: &Tag) -> CtrLe<K> {
+    fn mask(&self, tag: &Tag) -> CtrLe<'k> {
         tag_mask(self.encryption, tag)
     }
 
@@ -248,10 +184,12 @@ impl Aead for GcmSiv {
     }
 
     fn seal_fitting(&self, nonce: &Nonce, aad: &[u8], text: &mut [u8]) -> Tag {
-        match worth((aad.len() + text.len()) as u64) {
-            Multiples::Few => self.seal_by::<TableMul>(nonce, aad, text),
-            Multiples::OfFourPowers => self.seal_by::<WideMul>(nonce, aad, text),
-        }
+        let keys = self.derive(nonce);
+        seal_whole(
+            &self.nonced(nonce, &keys.encryption, &TableMul::of(&keys.hash_key)),
+            aad,
+            text,
+        )
     }
 
     fn open_fitting(
@@ -261,9 +199,12 @@ impl Aead for GcmSiv {
         body: &mut [u8],
         tag: &Tag,
     ) -> Result<(), Fault> {
-        match worth((aad.len() + body.len()) as u64) {
-            Multiples::Few => self.open_by::<TableMul>(nonce, aad, body, tag),
-            Multiples::OfFourPowers => self.open_by::<WideMul>(nonce, aad, body, tag),
-        }
+        let keys = self.derive(nonce);
+        open_whole(
+            &self.nonced(nonce, &keys.encryption, &TableMul::of(&keys.hash_key)),
+            aad,
+            body,
+            tag,
+        )
     }
 }

@@ -4,6 +4,7 @@
 ghost use Rattle.std.specs.Prelude.{◌≡◌, ◌<◌, ◌*◌, ◌/◌, ◌^◌, ◌++◌, ℕ, List, length, drop};
 ghost use Rattle.octets.specs.Bytes.{pad16};
 ghost use Rattle.octets.specs.Ends.{hashed_of};
+ghost use Rattle.aes.specs.Cipher.{cipher};
 ghost use Rattle.gf128.specs.Orders.{Reversed, Serves};
 ghost use Rattle.aead.specs.Suites.{ByChaCha, ByGcm, ByGcmSiv, construction_of};
 ghost use Rattle.aead.specs.Sealing.{Setting, Fits, tag_block, tag_over, hash_key, authentication_key, encryption_key};
@@ -11,7 +12,7 @@ ghost use Rattle.aead.specs.PassStates.{IsHashKey, IsSumOf};
 ghost use Rattle.aead.specs.Code.States.{HeldByPoly, HeldByGhash, HeldByPolyval};
 
 use crate::derived_keys::joined;
-use aes::{AesKey, KeptKey};
+use aes::AesKey;
 use gf128::{Ghash, Multiply, Polyval};
 use octets::{Block, Nonce, Order, Stream, Tag, be_pair, xor_into, xored};
 use poly1305::Poly;
@@ -148,6 +149,26 @@ fn tag_block(hash: &[u8; 16], nonce: &[u8; 12]) -> [u8; 16]
     block
 }
 
+// The cipher that the tag of AES-GCM-SIV is made by. It is a type parameter of the hash, since the prover takes no struct that has a
+// lifetime beside a hash of another crate.
+pub(crate) trait TagCipher: Drop {
+    // The key's bytes.
+    ghost key: { Self → List ℕ };
+
+    // Returns the cipher of a block.
+    fn encrypt(&self, block: &Block) -> Block
+        ensures { result ≡ cipher (key self.now) block.now };
+}
+
+impl TagCipher for &AesKey {
+    ghost key = { λ k. k.now };
+
+    #[inline(always)]
+    fn encrypt(&self, block: &Block) -> Block {
+        (*self).encrypt_in_registers(block)
+    }
+}
+
 // POLYVAL, the encryption key and the nonce; the lengths are in bits (RFC 8452, 4).
 #[derive(Drop)]
 pub(crate) struct PolyvalTag<M, K> {
@@ -156,8 +177,8 @@ pub(crate) struct PolyvalTag<M, K> {
     pub(crate) nonce: Nonce,
 }
 
-impl<M: Multiply, K: KeptKey> TagHash for PolyvalTag<M, K> {
-    ghost held = { HeldByPolyval M.key_bytes K.bytes };
+impl<M: Multiply, K: TagCipher> TagHash for PolyvalTag<M, K> {
+    ghost held = { HeldByPolyval M.key_bytes K.key };
 
     #[inline(always)]
     fn take_in(&mut self, bytes: &[u8]) {
@@ -181,13 +202,7 @@ impl<M: Multiply, K: KeptKey> TagHash for PolyvalTag<M, K> {
         self.hash
             .pad16_and_add(&joined(&first.to_le_bytes(), &second.to_le_bytes()));
         let block = tag_block(self.hash.hash().bytes(), self.nonce.bytes());
-        Tag::new(
-            *self
-                .key
-                .kept()
-                .encrypt_in_registers(&Block::new(block))
-                .bytes(),
-        )
+        Tag::new(*self.key.encrypt(&Block::new(block)).bytes())
     }
 }
 

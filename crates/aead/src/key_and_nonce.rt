@@ -19,7 +19,7 @@ use crate::gcm::hash_subkey;
 use crate::hashes::PolyKeys;
 use crate::keys::{AesKeys, CipherKeys, KeyBytes, MessageKeys};
 use crate::pass_state::PassState;
-use crate::suite::Suite;
+use crate::suite::{Construction, Suite};
 use crate::{gcm_pass, siv_pass};
 use aes::AesKey;
 use octets::{Block, Fault, Key32, Nonce};
@@ -72,16 +72,16 @@ impl KeyAndNonce {
         let key = &self.key;
         let bytes = AesKeys::Bytes(KeyBytes { suite, key });
         let nonce = self.nonce;
-        match suite {
-            Suite::ChaCha20Poly1305 => MessageKeys {
+        match suite.construction() {
+            Construction::ChaChaPoly => MessageKeys {
                 cipher: CipherKeys::ChaCha(key),
                 nonce,
             },
-            Suite::Aes128Gcm | Suite::Aes192Gcm | Suite::Aes256Gcm => MessageKeys {
+            Construction::Gcm => MessageKeys {
                 cipher: CipherKeys::Gcm(bytes),
                 nonce,
             },
-            Suite::Aes128GcmSiv | Suite::Aes256GcmSiv => MessageKeys {
+            Construction::GcmSiv => MessageKeys {
                 cipher: CipherKeys::Siv(bytes),
                 nonce,
             },
@@ -249,24 +249,46 @@ impl KeyAndNonce {
         }
         let nonce = Nonce::from_slice(nonce)?;
         suite.check_aad(aad)?;
-        match suite {
-            Suite::ChaCha20Poly1305 => {
+        match suite.construction() {
+            Construction::ChaChaPoly => {
                 let key = Key32::from_slice(key)?;
                 self.begin_chacha(state, suite, &key, &nonce, aad);
                 Ok(())
             }
-            Suite::Aes128Gcm | Suite::Aes192Gcm | Suite::Aes256Gcm => {
+            Construction::Gcm => {
                 self.begin_gcm_anew(state, suite, key, &nonce, aad);
                 Ok(())
             }
-            Suite::Aes128GcmSiv | Suite::Aes256GcmSiv => {
+            Construction::GcmSiv => {
                 self.begin_siv_anew(state, suite, key, &nonce, aad);
                 Ok(())
             }
         }
     }
 
-    // Begins a pass as `begin` does, with the key schedule and the key of GHASH.
+    // Begins a pass under AES-GCM-SIV as `begin` does, with the key schedule.
+    pub(crate) fn begin_siv_by(
+        &mut self,
+        state: &mut PassState,
+        suite: Suite,
+        cipher: &AesKey,
+        nonce: &[u8],
+        aad: &[u8],
+    ) -> Result<(), Fault>
+        requires by { construction_of suite ≡ ByGcmSiv }
+        requires long { length cipher.now ≡ key_length suite }
+        ensures answer { let s = setting_of suite cipher.now nonce.now aad.now in
+            MatchResult result (λ _. HasKeys self.new s × HoldsNumbers state.new s []) (BeginRefused s) }
+        ensures kept { OnErr result ((self.new ≡ self.old) × (state.new ≡ state.old)) }
+    {
+        let nonce = Nonce::from_slice(nonce)?;
+        suite.check_aad(aad)?;
+        self.begin_siv(state, suite, cipher, &nonce, aad);
+        Ok(())
+    }
+
+    // Begins a pass as `begin` does, with the key schedule, and under AES-GCM with the key of GHASH: under AES-GCM-SIV the block
+    // makes no difference.
     pub(crate) fn begin_by(
         &mut self,
         state: &mut PassState,
@@ -279,24 +301,24 @@ impl KeyAndNonce {
     ) -> Result<(), Fault>
         requires long { length key.now ≡ key_length suite }
         requires cipher { cipher.now ≡ key.now }
-        requires ghash_key { ghash_key.now ≡ hash_key key.now }
+        requires ghash_key { construction_of suite ≡ ByGcm → ghash_key.now ≡ hash_key key.now }
         ensures answer { let s = setting_of suite key.now nonce.now aad.now in
             MatchResult result (λ _. HasKeys self.new s × HoldsNumbers state.new s []) (BeginRefused s) }
         ensures kept { OnErr result ((self.new ≡ self.old) × (state.new ≡ state.old)) }
     {
         let nonce = Nonce::from_slice(nonce)?;
         suite.check_aad(aad)?;
-        match suite {
-            Suite::ChaCha20Poly1305 => {
+        match suite.construction() {
+            Construction::ChaChaPoly => {
                 let key = Key32::from_slice(key)?;
                 self.begin_chacha(state, suite, &key, &nonce, aad);
                 Ok(())
             }
-            Suite::Aes128Gcm | Suite::Aes192Gcm | Suite::Aes256Gcm => {
+            Construction::Gcm => {
                 self.begin_gcm(state, suite, key, cipher, ghash_key, &nonce, aad);
                 Ok(())
             }
-            Suite::Aes128GcmSiv | Suite::Aes256GcmSiv => {
+            Construction::GcmSiv => {
                 self.begin_siv(state, suite, cipher, &nonce, aad);
                 Ok(())
             }

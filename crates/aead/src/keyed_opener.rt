@@ -3,7 +3,7 @@
 
 ghost use Rattle.std.specs.Prelude.{◌≡◌, ◌+◌, ◌<◌, ◌≤◌, ◌++◌, ℕ, List, [], length, min, MatchResult, IfOk, OnErr};
 ghost use Rattle.octets.specs.Masked.{masked};
-ghost use Rattle.aead.specs.Suites.{key_length, text_limit};
+ghost use Rattle.aead.specs.Suites.{ByGcm, construction_of, key_length, text_limit};
 ghost use Rattle.aead.specs.Sealing.{Setting, IsNoSealing, hash_key, mask_of};
 ghost use Rattle.aead.specs.Refusals.{SealRefused};
 ghost use Rattle.aead.specs.KeyedPasses.{setting_of, BeginRefused, ResumeRefused};
@@ -65,7 +65,8 @@ impl KeyedOpener {
         }
     }
 
-    /// Begins as [`KeyedOpener::begin`] does, with the key schedule and the key of GHASH, which is the cipher of a block of zeros.
+    /// Begins as [`KeyedOpener::begin`] does, with the key schedule, and under AES-GCM with the key of GHASH, which is the cipher of a
+    /// block of zeros: under other suites the block makes no difference.
     pub fn begin_by(
         &mut self,
         suite: Suite,
@@ -78,7 +79,7 @@ impl KeyedOpener {
     ) -> Result<(), Fault>
         requires long { length key.now ≡ key_length suite }
         requires cipher { cipher.now ≡ key.now }
-        requires ghash_key { ghash_key.now ≡ hash_key key.now }
+        requires ghash_key { construction_of suite ≡ ByGcm → ghash_key.now ≡ hash_key key.now }
         ensures answer { let s = setting_of suite key.now nonce.now aad.now in
             MatchResult result (λ _. HoldsFirstPass self.new s tag.now []) (BeginRefused s) }
         ensures kept { OnErr result (self.new ≡ self.old) }

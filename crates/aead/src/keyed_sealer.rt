@@ -2,7 +2,7 @@
 
 ghost use Rattle.std.specs.Prelude.{◌≡◌, ◌+◌, ◌<◌, ◌≤◌, ◌++◌, ℕ, List, [], length, true, MatchResult, IfOk, OnErr};
 ghost use Rattle.octets.specs.Masked.{masked};
-ghost use Rattle.aead.specs.Suites.{construction_of, is_one_pass, key_length, text_limit};
+ghost use Rattle.aead.specs.Suites.{ByGcm, construction_of, is_one_pass, key_length, text_limit};
 ghost use Rattle.aead.specs.Sealing.{Setting, hash_key, mask_of, tag_of};
 ghost use Rattle.aead.specs.Refusals.{SealRefused};
 ghost use Rattle.aead.specs.PassStates.{HasHashKey, HoldsState};
@@ -52,7 +52,8 @@ impl KeyedSealer {
         self.keys.begin(&mut self.state, suite, key, nonce, aad)
     }
 
-    /// Begins as [`KeyedSealer::begin`] does, with the key schedule and the key of GHASH, which is the cipher of a block of zeros.
+    /// Begins as [`KeyedSealer::begin`] does, with the key schedule, and under AES-GCM with the key of GHASH, which is the cipher of a
+    /// block of zeros: under other suites the block makes no difference.
     pub fn begin_by(
         &mut self,
         suite: Suite,
@@ -65,7 +66,7 @@ impl KeyedSealer {
         requires one_pass { is_one_pass (construction_of suite) ≡ true }
         requires long { length key.now ≡ key_length suite }
         requires cipher { cipher.now ≡ key.now }
-        requires ghash_key { ghash_key.now ≡ hash_key key.now }
+        requires ghash_key { construction_of suite ≡ ByGcm → ghash_key.now ≡ hash_key key.now }
         ensures answer { let s = setting_of suite key.now nonce.now aad.now in
             MatchResult result (λ _. HoldsKeyedText self.new s []) (BeginRefused s) }
         ensures kept { OnErr result (self.new ≡ self.old) }

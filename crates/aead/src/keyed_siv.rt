@@ -4,7 +4,7 @@
 ghost use Rattle.std.specs.Prelude.{◌≡◌, ◌+◌, ◌<◌, ◌≤◌, ◌++◌, ℕ, List, [], length, min, MatchResult, IfOk, OnErr};
 ghost use Rattle.octets.specs.Masked.{masked};
 ghost use Rattle.aead.specs.Suites.{ByGcmSiv, construction_of, key_length, text_limit};
-ghost use Rattle.aead.specs.Sealing.{Setting, hash_key, mask_of, tag_of};
+ghost use Rattle.aead.specs.Sealing.{Setting, mask_of, tag_of};
 ghost use Rattle.aead.specs.Pieces.{IsInFirstReading, IsInSecondReading, Repeats};
 ghost use Rattle.aead.specs.Refusals.{SealRefused};
 ghost use Rattle.aead.specs.KeyedPasses.{setting_of, BeginRefused, ResumeRefused};
@@ -14,7 +14,7 @@ use crate::key_and_nonce::KeyAndNonce;
 use crate::suite::Suite;
 use crate::two_pass_state::TwoPassState;
 use aes::{AesKey, KnownBlock};
-use octets::{Block, Fault, Tag};
+use octets::{Fault, Tag};
 
 /// A text that is sealed piece by piece in two readings under AES-GCM-SIV, with the bytes of its keys. Each number may have any
 /// value. [`crate::SivAbsorb`] is faster for short pieces: each piece makes the key schedule again here.
@@ -63,33 +63,24 @@ impl KeyedSiv {
         }
     }
 
-    /// Begins as [`KeyedSiv::begin`] does, with the key schedule and the key of GHASH, which is the cipher of a block of zeros.
+    /// Begins as [`KeyedSiv::begin`] does, with the key schedule.
     pub fn begin_by(
         &mut self,
         suite: Suite,
-        key: &[u8],
         cipher: &AesKey,
-        ghash_key: &Block,
         nonce: &[u8],
         aad: &[u8],
     ) -> Result<(), Fault>
         requires by { construction_of suite ≡ ByGcmSiv }
-        requires long { length key.now ≡ key_length suite }
-        requires cipher { cipher.now ≡ key.now }
-        requires ghash_key { ghash_key.now ≡ hash_key key.now }
-        ensures answer { let s = setting_of suite key.now nonce.now aad.now in
+        requires long { length cipher.now ≡ key_length suite }
+        ensures answer { let s = setting_of suite cipher.now nonce.now aad.now in
             MatchResult result (λ _. HoldsFirstReading self.new s []) (BeginRefused s) }
         ensures kept { OnErr result (self.new ≡ self.old) }
     {
-        match self.keys.begin_by(
-            &mut self.state.pass,
-            suite,
-            key,
-            cipher,
-            ghash_key,
-            nonce,
-            aad,
-        ) {
+        match self
+            .keys
+            .begin_siv_by(&mut self.state.pass, suite, cipher, nonce, aad)
+        {
             Ok(()) => {
                 self.state = TwoPassState::first(self.state.pass, &[0; 16]);
                 Ok(())

@@ -13,7 +13,7 @@ use crate::beside::Order;
 use crate::derived_keys::expanded;
 use crate::hashes::PolyKeys;
 use crate::pass_state::PassState;
-use crate::suite::Suite;
+use crate::suite::{Construction, Suite};
 use crate::{chacha_poly, gcm_pass, siv_pass};
 use aes::{AesKey, KnownBlock};
 use gf128::TableMul;
@@ -79,16 +79,24 @@ fn mask_chacha(state: &mut PassState, key: &[u8; 32], nonce: &Nonce, order: Orde
 impl<'a> MessageKeys<'a> {
     ghost use Rattle.aead.specs.Code.MessageKeys.{construction_by, AreKeysOf};
 
+    // The construction that the keys are for.
+    #[inline(always)]
+    fn construction(&self) -> Construction
+        ensures { result ≡ construction_by self.now.cipher }
+    {
+        match self.cipher {
+            CipherKeys::ChaCha(_) => Construction::ChaChaPoly,
+            CipherKeys::Gcm(_) => Construction::Gcm,
+            CipherKeys::Siv(_) => Construction::GcmSiv,
+        }
+    }
+
     // The limit of a text in bytes.
     #[inline(always)]
     pub(crate) fn text_limit(&self) -> u64
         ensures { result ≡ text_limit_by (construction_by self.now.cipher) }
     {
-        match self.cipher {
-            CipherKeys::ChaCha(_) => Suite::ChaCha20Poly1305.text_limit(),
-            CipherKeys::Gcm(_) => Suite::Aes128Gcm.text_limit(),
-            CipherKeys::Siv(_) => Suite::Aes128GcmSiv.text_limit(),
-        }
+        self.construction().text_limit()
     }
 
     // Masks a piece of the message with this tag and authenticates it. Only under AES-GCM-SIV does the mask depend on the tag. If
@@ -155,8 +163,8 @@ impl<'a> MessageKeys<'a> {
         ensures { (mask : ℕ → ℕ) (body : List ℕ)
             → hashed_by result mask body ≡ authenticated_by (construction_by self.now.cipher) mask body }
     {
-        match self.cipher {
-            CipherKeys::Siv(_) => Order::MaskFirst,
+        match self.construction() {
+            Construction::GcmSiv => Order::MaskFirst,
             _ => Order::HashFirst,
         }
     }

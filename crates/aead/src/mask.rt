@@ -8,7 +8,7 @@ ghost use Rattle.aead.specs.Sealing.{Setting, mask_of};
 ghost use Rattle.aead.specs.Code.States.{MadeByChaCha, MadeByGcm, MadeByGcmSiv};
 ghost use Rattle.aead.specs.Code.Masks.{Masks, chacha_masks, gcm_masks, siv_masks};
 
-use aes::{CtrBe, CtrLe, KeptKey};
+use aes::{CtrBe, CtrLe};
 use chacha::{ChaStream, RUN};
 use octets::Stream;
 
@@ -45,23 +45,23 @@ impl MaskStream for ChaStream {
 }
 
 // Under AES-GCM the mask is the counter stream from inc32(J0) on (SP 800-38D, 7.1).
-impl<K: KeptKey> MaskStream for CtrBe<K> {
-    ghost made = { MadeByGcm K.bytes };
+impl<'k> MaskStream for CtrBe<'k> {
+    ghost made = { MadeByGcm };
 
     fn pays_beside_a_hash(&self, _length: usize) -> bool {
         false
     }
 
-    ghost masks = { gcm_masks K.bytes };
+    ghost masks = { gcm_masks };
 }
 
 // Under AES-GCM-SIV the mask is the counter stream whose first block is made from the tag (RFC 8452, 4).
-impl<K: KeptKey> MaskStream for CtrLe<K> {
-    ghost made = { MadeByGcmSiv K.bytes };
+impl<'k> MaskStream for CtrLe<'k> {
+    ghost made = { MadeByGcmSiv };
 
     fn pays_beside_a_hash(&self, _length: usize) -> bool {
         false
     }
 
-    ghost masks = { siv_masks K.bytes };
+    ghost masks = { siv_masks };
 }

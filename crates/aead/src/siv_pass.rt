@@ -15,10 +15,9 @@ use crate::derived_keys::{expanded, joined};
 use crate::gcm_siv::mask_at;
 use crate::hashes::PolyvalKeys;
 use crate::keys::{AesKeys, ExpandedKey, KeyBytes};
-use crate::multiples::{Multiples, worth};
 use crate::pass_state::PassState;
-use aes::{AesKey, KnownBlock};
-use gf128::{Keyed128, TableMul, WideMul};
+use aes::KnownBlock;
+use gf128::{Keyed128, TableMul};
 use octets::{Block, Nonce, Tag};
 
 // The hash key as a state holds it: the key of POLYVAL's multiplier, and zeros.
@@ -94,11 +93,10 @@ pub(crate) fn initial_state_by_key(
     }
 }
 
-// Masks and authenticates a piece with a multiplier of type `M` that is made here, so that only this call has it on its stack.
-#[inline(never)]
-fn mask_by<M: Keyed128>(
+// Masks and authenticates a piece with a key schedule and a table.
+fn mask_expanded(
     state: &mut PassState,
-    key: &AesKey,
+    keys: ExpandedKey,
     nonce: &Nonce,
     tag: &[u8; 16],
     known: &mut KnownBlock,
@@ -107,23 +105,21 @@ fn mask_by<M: Keyed128>(
 )
     requires { state.old.length + length piece.old ≤ 2 ^ 36 }
     ensures { (s : Setting) (fed : List ℕ) → construction_of s.suite ≡ ByGcmSiv
-        → key.now ≡ encryption_key s.key s.nonce → nonce.now ≡ s.nonce
+        → AreSivKeys (AesKeys.Expanded keys.entry) s → nonce.now ≡ s.nonce
         → MasksPieceKnowing (hashed_by order) state.old state.new known.old known.new piece.old piece.new
         (encryption_key s.key s.nonce) s tag.now fed }
 {
-    let mut multiplier = M::none();
-    multiplier.set(&state.multiplier_key());
-    let keys = PolyvalKeys {
-        multiplier: &multiplier,
-        key,
+    let hash_keys = PolyvalKeys {
+        multiplier: keys.few,
+        key: keys.key,
         nonce,
     };
-    let mut mask = mask_at(key, tag, state.length, known);
-    state.step(&keys, &mut mask, order, piece);
+    let mut mask = mask_at(keys.key, tag, state.length, known);
+    state.step(&hash_keys, &mut mask, order, piece);
     mask.set_known(known);
 }
 
-// Masks and authenticates a piece under the bytes of a key. Only this call has the key schedule on its stack.
+// Masks and authenticates a piece under the bytes of a key. Only this call has the key schedule and the table on its stack.
 #[inline(never)]
 fn mask_anew(
     state: &mut PassState,
@@ -141,43 +137,12 @@ fn mask_anew(
         (encryption_key s.key s.nonce) s tag.now fed }
 {
     let key = bytes.schedule();
-    match worth(piece.len() as u64) {
-        Multiples::Few => mask_by::<TableMul>(state, &key, nonce, tag, known, order, piece),
-        Multiples::OfFourPowers => mask_by::<WideMul>(state, &key, nonce, tag, known, order, piece),
-    }
-}
-
-// Masks and authenticates a piece with a key schedule, and with the small table if the piece is short.
-fn mask_expanded(
-    state: &mut PassState,
-    keys: ExpandedKey,
-    nonce: &Nonce,
-    tag: &[u8; 16],
-    known: &mut KnownBlock,
-    order: Order,
-    piece: &mut [u8],
-)
-    requires { state.old.length + length piece.old ≤ 2 ^ 36 }
-    ensures { (s : Setting) (fed : List ℕ) → construction_of s.suite ≡ ByGcmSiv
-        → AreSivKeys (AesKeys.Expanded keys.entry) s → nonce.now ≡ s.nonce
-        → MasksPieceKnowing (hashed_by order) state.old state.new known.old known.new piece.old piece.new
-        (encryption_key s.key s.nonce) s tag.now fed }
-{
-    match worth(piece.len() as u64) {
-        Multiples::Few => {
-            let hash_keys = PolyvalKeys {
-                multiplier: keys.few,
-                key: keys.key,
-                nonce,
-            };
-            let mut mask = mask_at(keys.key, tag, state.length, known);
-            state.step(&hash_keys, &mut mask, order, piece);
-            mask.set_known(known);
-        }
-        Multiples::OfFourPowers => {
-            mask_by::<WideMul>(state, keys.key, nonce, tag, known, order, piece)
-        }
-    }
+    let few = TableMul::of(&state.multiplier_key());
+    let keys = ExpandedKey {
+        key: &key,
+        few: &few,
+    };
+    mask_expanded(state, keys, nonce, tag, known, order, piece);
 }
 
 // Masks and authenticates a piece.
@@ -203,25 +168,22 @@ pub(crate) fn mask(
     }
 }
 
-// Authenticates a piece with a multiplier of type `M` that is made here, so that only this call has it on its stack.
-#[inline(never)]
-fn take_by<M: Keyed128>(state: &mut PassState, key: &AesKey, nonce: &Nonce, piece: &[u8])
+// Authenticates a piece with a key schedule and a table.
+fn take_expanded(state: &mut PassState, keys: ExpandedKey, nonce: &Nonce, piece: &[u8])
     requires { state.old.length + length piece.now < 2 ^ 64 }
-    ensures { (s : Setting) (bytes : List ℕ) → construction_of s.suite ≡ ByGcmSiv
-        → key.now ≡ encryption_key s.key s.nonce → nonce.now ≡ s.nonce
-        → TakesPiece state.old state.new piece.now s bytes }
+    ensures { (s : Setting) (fed : List ℕ) → construction_of s.suite ≡ ByGcmSiv
+        → AreSivKeys (AesKeys.Expanded keys.entry) s → nonce.now ≡ s.nonce
+        → TakesPiece state.old state.new piece.now s fed }
 {
-    let mut multiplier = M::none();
-    multiplier.set(&state.multiplier_key());
-    let keys = PolyvalKeys {
-        multiplier: &multiplier,
-        key,
+    let hash_keys = PolyvalKeys {
+        multiplier: keys.few,
+        key: keys.key,
         nonce,
     };
-    state.take(&keys, piece);
+    state.take(&hash_keys, piece);
 }
 
-// Authenticates a piece under the bytes of a key. Only this call has the key schedule on its stack.
+// Authenticates a piece under the bytes of a key. Only this call has the key schedule and the table on its stack.
 #[inline(never)]
 fn take_anew(state: &mut PassState, bytes: KeyBytes, nonce: &Nonce, piece: &[u8])
     requires { state.old.length + length piece.now < 2 ^ 64 }
@@ -230,30 +192,12 @@ fn take_anew(state: &mut PassState, bytes: KeyBytes, nonce: &Nonce, piece: &[u8]
         → TakesPiece state.old state.new piece.now s fed }
 {
     let key = bytes.schedule();
-    match worth(piece.len() as u64) {
-        Multiples::Few => take_by::<TableMul>(state, &key, nonce, piece),
-        Multiples::OfFourPowers => take_by::<WideMul>(state, &key, nonce, piece),
-    }
-}
-
-// Authenticates a piece with a key schedule, and with the small table if the piece is short.
-fn take_expanded(state: &mut PassState, keys: ExpandedKey, nonce: &Nonce, piece: &[u8])
-    requires { state.old.length + length piece.now < 2 ^ 64 }
-    ensures { (s : Setting) (fed : List ℕ) → construction_of s.suite ≡ ByGcmSiv
-        → AreSivKeys (AesKeys.Expanded keys.entry) s → nonce.now ≡ s.nonce
-        → TakesPiece state.old state.new piece.now s fed }
-{
-    match worth(piece.len() as u64) {
-        Multiples::Few => {
-            let hash_keys = PolyvalKeys {
-                multiplier: keys.few,
-                key: keys.key,
-                nonce,
-            };
-            state.take(&hash_keys, piece);
-        }
-        Multiples::OfFourPowers => take_by::<WideMul>(state, keys.key, nonce, piece),
-    }
+    let few = TableMul::of(&state.multiplier_key());
+    let keys = ExpandedKey {
+        key: &key,
+        few: &few,
+    };
+    take_expanded(state, keys, nonce, piece);
 }
 
 // Authenticates a piece.
@@ -269,47 +213,54 @@ pub(crate) fn take(state: &mut PassState, keys: AesKeys, nonce: &Nonce, piece: &
     }
 }
 
-// Authenticates the text of a piece of a ciphertext with a multiplier of type `M` that is made here, so that only this call has it
-// on its stack.
-#[inline(never)]
-fn take_text_by<M: Keyed128>(
+// Authenticates the text of a piece of a ciphertext with a key schedule and a table.
+fn take_text_expanded(
     state: &mut PassState,
-    key: &AesKey,
+    keys: ExpandedKey,
     nonce: &Nonce,
     tag: &[u8; 16],
     piece: &[u8],
 )
     requires { state.old.length + length piece.now ≤ 2 ^ 36 }
     ensures { (s : Setting) (fed : List ℕ) → construction_of s.suite ≡ ByGcmSiv
-        → key.now ≡ encryption_key s.key s.nonce → nonce.now ≡ s.nonce
+        → AreSivKeys (AesKeys.Expanded keys.entry) s → nonce.now ≡ s.nonce
         → TakesPieceText state.old state.new piece.now s tag.now fed }
 {
-    let mut multiplier = M::none();
-    multiplier.set(&state.multiplier_key());
-    let keys = PolyvalKeys {
-        multiplier: &multiplier,
-        key,
+    let hash_keys = PolyvalKeys {
+        multiplier: keys.few,
+        key: keys.key,
         nonce,
     };
-    let mut mask = mask_at(key, tag, state.length, &KnownBlock::none());
-    state.take_text(&keys, &mut mask, piece);
+    let mut mask = mask_at(keys.key, tag, state.length, &KnownBlock::none());
+    state.take_text(&hash_keys, &mut mask, piece);
 }
 
-// Authenticates the text of a piece of a ciphertext with a key schedule.
-fn take_text_under(state: &mut PassState, key: &AesKey, nonce: &Nonce, tag: &[u8; 16], piece: &[u8])
+// Authenticates the text of a piece of a ciphertext under the bytes of a key. Only this call has the key schedule and the table on
+// its stack.
+#[inline(never)]
+fn take_text_anew(
+    state: &mut PassState,
+    bytes: KeyBytes,
+    nonce: &Nonce,
+    tag: &[u8; 16],
+    piece: &[u8],
+)
     requires { state.old.length + length piece.now ≤ 2 ^ 36 }
     ensures { (s : Setting) (fed : List ℕ) → construction_of s.suite ≡ ByGcmSiv
-        → key.now ≡ encryption_key s.key s.nonce → nonce.now ≡ s.nonce
+        → AreSivKeys (AesKeys.Bytes bytes.entry) s → nonce.now ≡ s.nonce
         → TakesPieceText state.old state.new piece.now s tag.now fed }
 {
-    match worth(piece.len() as u64) {
-        Multiples::Few => take_text_by::<TableMul>(state, key, nonce, tag, piece),
-        Multiples::OfFourPowers => take_text_by::<WideMul>(state, key, nonce, tag, piece),
-    }
+    let key = bytes.schedule();
+    let few = TableMul::of(&state.multiplier_key());
+    let keys = ExpandedKey {
+        key: &key,
+        few: &few,
+    };
+    take_text_expanded(state, keys, nonce, tag, piece);
 }
 
 // Authenticates the text of a piece of a ciphertext.
-#[inline(never)]
+#[inline(always)]
 pub(crate) fn take_text(
     state: &mut PassState,
     keys: AesKeys,
@@ -323,8 +274,8 @@ pub(crate) fn take_text(
         → TakesPieceText state.old state.new piece.now s tag.now fed }
 {
     match keys {
-        AesKeys::Expanded(keys) => take_text_under(state, keys.key, nonce, tag, piece),
-        AesKeys::Bytes(bytes) => take_text_under(state, &bytes.schedule(), nonce, tag, piece),
+        AesKeys::Expanded(keys) => take_text_expanded(state, keys, nonce, tag, piece),
+        AesKeys::Bytes(bytes) => take_text_anew(state, bytes, nonce, tag, piece),
     }
 }
 

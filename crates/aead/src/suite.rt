@@ -3,10 +3,46 @@
 ghost use Rattle.std.specs.Prelude.{◌≡◌, ◌↔◌, ◌<◌, ◌≤◌, length, MatchResult};
 ghost use Rattle.aead.specs.declared.suite.Suite.{Suite};
 ghost use Rattle.aead.specs.Suites.{suite_name, suite_number, key_length, text_limit, aad_limit};
+ghost use Rattle.aead.specs.Suites.{construction_of, text_limit_by, aad_limit_by};
 
 use octets::Fault;
 
-/// A way of authenticated encryption with its key length.
+/// A way of authenticated encryption: a cipher and a hash.
+#[derive(Clone, Copy, Debug, PartialEq, Eq, Drop)]
+pub enum Construction {
+    /// ChaCha20 and Poly1305 (RFC 8439, 2.8).
+    ChaChaPoly,
+    /// AES-GCM (SP 800-38D).
+    Gcm,
+    /// AES-GCM-SIV (RFC 8452).
+    GcmSiv,
+}
+
+impl Construction {
+    // The most bytes that a text may have.
+    pub(crate) fn text_limit(self) -> u64
+        ensures { result ≡ text_limit_by self }
+    {
+        match self {
+            Construction::ChaChaPoly => (1 << 38) - 64,
+            Construction::Gcm => (1 << 36) - 32,
+            Construction::GcmSiv => 1 << 36,
+        }
+    }
+
+    // The most bytes that associated data may have.
+    fn aad_limit(self) -> u64
+        ensures { result ≡ aad_limit_by self }
+    {
+        match self {
+            Construction::ChaChaPoly => u64::MAX,
+            Construction::Gcm => (1 << 61) - 1,
+            Construction::GcmSiv => 1 << 36,
+        }
+    }
+}
+
+/// A construction with a key length.
 #[derive(Clone, Copy, Debug, PartialEq, Eq, Drop)]
 pub enum Suite {
     /// ChaCha20 and Poly1305 (RFC 8439, 2.8), with a key of 32 bytes.
@@ -91,6 +127,18 @@ impl Suite {
         }
     }
 
+    /// Returns the construction of a suite.
+    #[inline]
+    pub fn construction(self) -> Construction
+        ensures { result ≡ construction_of self }
+    {
+        match self {
+            Suite::ChaCha20Poly1305 => Construction::ChaChaPoly,
+            Suite::Aes128Gcm | Suite::Aes192Gcm | Suite::Aes256Gcm => Construction::Gcm,
+            Suite::Aes128GcmSiv | Suite::Aes256GcmSiv => Construction::GcmSiv,
+        }
+    }
+
     /// Returns the length of a key in bytes: 16, 24 or 32.
     pub fn key_length(self) -> usize
         ensures { result ≡ key_length self }
@@ -107,11 +155,7 @@ impl Suite {
     pub fn text_limit(self) -> u64
         ensures { result ≡ text_limit self }
     {
-        match self {
-            Suite::ChaCha20Poly1305 => (1 << 38) - 64,
-            Suite::Aes128Gcm | Suite::Aes192Gcm | Suite::Aes256Gcm => (1 << 36) - 32,
-            Suite::Aes128GcmSiv | Suite::Aes256GcmSiv => 1 << 36,
-        }
+        self.construction().text_limit()
     }
 
     /// Returns the most bytes that associated data may have: 2^64 - 1 (RFC 8439, 2.8), 2^61 - 1 (SP 800-38D, 5.2.1.1, which
@@ -119,11 +163,7 @@ impl Suite {
     pub fn aad_limit(self) -> u64
         ensures { result ≡ aad_limit self }
     {
-        match self {
-            Suite::ChaCha20Poly1305 => u64::MAX,
-            Suite::Aes128Gcm | Suite::Aes192Gcm | Suite::Aes256Gcm => (1 << 61) - 1,
-            Suite::Aes128GcmSiv | Suite::Aes256GcmSiv => 1 << 36,
-        }
+        self.construction().aad_limit()
     }
 
     /// Compares the length of a text with the limit. The only fault is `TextTooLong`, if it is longer than

@@ -9,7 +9,7 @@ ghost use Rattle.aes.specs.Code.Nibbles.{CountsInNibble};
 ghost use Rattle.aes.specs.Code.Wraps.{WrapsAround, up_be-wraps, up_le-wraps};
 
 use crate::counted_planes::count_blocks;
-use crate::key::{AesKey, KeptKey};
+use crate::key::AesKey;
 use crate::key_planes::KeyPlanes;
 use crate::planes::Planes;
 use byteorder::{BigEndian, ByteOrder, LittleEndian};
@@ -491,35 +491,35 @@ impl<C: Count> Counter<C> {
     }
 }
 
-/// AES in counter mode: the stream of the ciphers of counter blocks, under a key that it owns or borrows. `C` says which bytes
-/// of a block are the counter.
+/// AES in counter mode: the stream of the ciphers of counter blocks, under a key that it borrows. `C` says which bytes of a
+/// block are the counter.
 #[derive(Drop)]
-pub struct Ctr<C, K> {
-    key: K,
+pub struct Ctr<'k, C> {
+    key: &'k AesKey,
     counter: Counter<C>,
 }
 
 /// The stream of AES-GCM: the ciphers of blocks whose last four bytes count, most significant byte first, modulo 2^32
 /// (SP 800-38D, 6.5). In AES-GCM the first block is made from the nonce, and two tags under one nonce also give away the hash
 /// key, with which anyone can forge messages.
-pub type CtrBe<K> = Ctr<LastFour, K>;
+pub type CtrBe<'k> = Ctr<'k, LastFour>;
 
 /// The stream of AES-GCM-SIV: the ciphers of blocks whose first four bytes count, least significant byte first, modulo 2^32
 /// (RFC 8452, 4). In AES-GCM-SIV the first block is made from the tag: under a repeated nonce it is the same only if the text
 /// and the associated data are the same, and gives away only that.
-pub type CtrLe<K> = Ctr<FirstFour, K>;
+pub type CtrLe<'k> = Ctr<'k, FirstFour>;
 
-impl<C: Count, K: KeptKey> Ctr<C, K> {
+impl<'k, C: Count> Ctr<'k, C> {
     ghost use Rattle.aes.specs.Code.Streams.{Holds, KnowsCipher};
 
-    /// Makes the stream whose first block is the cipher of `first`, under a key that it owns or borrows.
+    /// Makes the stream whose first block is the cipher of `first`, under a key that it borrows.
     ///
     /// A counter block must never be used twice under one key: `first` and the blocks counted from it belong to this stream
     /// alone. Two texts that are XORed with the same part of a stream give away their XOR. [`CtrBe`] and [`CtrLe`] say what
     /// else a repeat gives away.
     #[inline(always)]
-    pub fn new(key: K, first: &Block) -> Ctr<C, K>
-        ensures { Holds C.up K.bytes result (K.bytes key) first.now 0 }
+    pub fn new(key: &'k AesKey, first: &Block) -> Ctr<'k, C>
+        ensures { Holds C.up result key.now first.now 0 }
     {
         Ctr {
             key,
@@ -527,29 +527,21 @@ impl<C: Count, K: KeptKey> Ctr<C, K> {
         }
     }
 
-    /// Makes the stream whose first block is the cipher of `first`, after its first `position` bytes. The rest must never be
-    /// used twice: see [`Ctr::new`].
-    pub fn at(key: K, first: &Block, position: u64) -> Ctr<C, K>
+    /// Makes the stream whose first block is the cipher of `first`, after its first `position` bytes, with a block whose cipher
+    /// under this key is known: if `position` is inside that block, nothing is encrypted. The rest must never be used twice: see
+    /// [`Ctr::new`].
+    pub fn at_known(key: &'k AesKey, first: &Block, position: u64, known: &KnownBlock) -> Ctr<'k, C>
         requires { position < 2 ^ 63 }
-        ensures { Holds C.up K.bytes result (K.bytes key) first.now position }
+        ensures { KnowsCipher known.now key.now → Holds C.up result key.now first.now position }
     {
-        Ctr::at_known(key, first, position, &KnownBlock::none())
-    }
-
-    /// Makes the stream as [`Ctr::at`] does, with a block whose cipher under this key is known: if `position` is inside that
-    /// block, nothing is encrypted.
-    pub fn at_known(key: K, first: &Block, position: u64, known: &KnownBlock) -> Ctr<C, K>
-        requires { position < 2 ^ 63 }
-        ensures { KnowsCipher known.now (K.bytes key) → Holds C.up K.bytes result (K.bytes key) first.now position }
-    {
-        let counter = Counter::at(key.kept(), first, position, known);
+        let counter = Counter::at(key, first, position, known);
         Ctr { key, counter }
     }
 
     /// Sets `known` to the block that the stream stands inside. If it stands between two blocks, `known` does not change.
     #[inline(always)]
     pub fn set_known(&self, known: &mut KnownBlock)
-        ensures { (key first : List ℕ) (position : ℕ) → Holds C.up K.bytes self.now key first position
+        ensures { (key first : List ℕ) (position : ℕ) → Holds C.up self.now key first position
             → KnowsCipher known.old key → KnowsCipher known.new key }
     {
         let counter = &self.counter;
@@ -568,19 +560,19 @@ impl<C: Count, K: KeptKey> Ctr<C, K> {
     /// calls. There is no fault: after 2^32 blocks the stream begins again (SP 800-38D, 6.5; RFC 8452, 4), so a caller has to
     /// stop before that.
     pub fn apply(&mut self, bytes: &mut [u8])
-        ensures { (key first : List ℕ) (position : ℕ) → Holds C.up K.bytes self.old key first position
-            → Holds C.up K.bytes self.new key first (position + length bytes.old)
+        ensures { (key first : List ℕ) (position : ℕ) → Holds C.up self.old key first position
+            → Holds C.up self.new key first (position + length bytes.old)
             × (bytes.new ≡ masked (counter_byte C.up key first) position bytes.old) }
     {
-        self.counter.apply(self.key.kept(), bytes);
+        self.counter.apply(self.key, bytes);
     }
 }
 
 /// Nothing runs beside the stream: its rounds leave no room.
-impl<C: Count, K: KeptKey> Stream for Ctr<C, K> {
+impl<'k, C: Count> Stream for Ctr<'k, C> {
     ghost use Rattle.aes.specs.Code.Streams.{Did};
 
-    ghost did = { Did C.up K.bytes };
+    ghost did = { Did C.up };
 
     fn apply_next(&mut self, bytes: &mut [u8]) {
         self.apply(bytes);

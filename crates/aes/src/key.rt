@@ -4,7 +4,6 @@ ghost use Rattle.std.specs.Prelude.{◌≡◌, ℕ, ◌≤◌, ◌<◌, ◌+◌,
 ghost use Rattle.std.specs.Prelude.{MatchResult};
 ghost use Rattle.octets.specs.Bytes.{IsBlock, block_at};
 ghost use Rattle.aes.specs.Cipher.{cipher, IsKey, IsKeyLength, IsPreimage};
-ghost use Rattle.aes.specs.Code.ExpandedKey.{own_key};
 ghost use Rattle.aes.specs.Code.InverseKey.{IsInverse};
 ghost use Rattle.aes.specs.Code.Lanes.{HoldsBlocks};
 ghost use Rattle.aes.specs.Code.Columns.{column_of, columns_of};
@@ -54,35 +53,6 @@ impl Model for AesKey {
     ghost inverse = { fields_of };
 
     ghost inverse_ok = { fields_of-key_of };
-}
-
-/// A key of AES, or a reference to one: a state for one message borrows its key, and a state that outlives the call owns a
-/// copy.
-pub trait KeptKey: Drop {
-    // The key's bytes.
-    ghost bytes: { Self → List ℕ };
-
-    /// Returns the key.
-    fn kept(&self) -> &AesKey
-        ensures { result.now ≡ bytes self.now };
-}
-
-impl KeptKey for AesKey {
-    ghost bytes = { own_key };
-
-    #[inline(always)]
-    fn kept(&self) -> &AesKey {
-        self
-    }
-}
-
-impl KeptKey for &AesKey {
-    ghost bytes = { λ k. k.now };
-
-    #[inline(always)]
-    fn kept(&self) -> &AesKey {
-        *self
-    }
 }
 
 impl AesKey {

@@ -2,7 +2,8 @@
 use Rattle.std.proofs.Common.{◌≡◌, ◌↔◌, ◌∙◌, ℕ, sym, subst, true, ap, true≢false, Option, Some, None}
 use Rattle.std.proofs.lemmas.Option.{none-some, same_Some}
 use Rattle.aead.specs.declared.suite.Suite.{Suite}
-use Rattle.aead.specs.Suites.{ByGcmSiv, construction_of, is_one_pass, suite_number}
+use Rattle.aead.specs.declared.suite.Construction.TheVariants.{GcmSiv as ByGcmSiv}
+use Rattle.aead.specs.Suites.{construction_of, is_one_pass, suite_number}
 
 -- a suite was found and passes the test
 pub passed : (T : Suite → Type 0) (number : ℕ) (r : Option Suite) (s : Suite)

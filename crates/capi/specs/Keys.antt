@@ -4,7 +4,9 @@ use Rattle.octets.specs.declared.fault.Fault.{Fault}
 use Rattle.octets.specs.declared.fault.Fault.TheVariants.{KeyLength}
 use Rattle.octets.specs.Refusals.{◌unless◌, FirstOf}
 use Rattle.aead.specs.declared.suite.Suite.{Suite}
-use Rattle.aead.specs.Suites.{Construction, ByChaCha, ByGcm, ByGcmSiv, key_length, suite_number}
+use Rattle.aead.specs.declared.suite.Construction.{Construction}
+use Rattle.aead.specs.declared.suite.Construction.TheVariants.{ChaChaPoly as ByChaCha, Gcm as ByGcm, GcmSiv as ByGcmSiv}
+use Rattle.aead.specs.Suites.{key_length, suite_number}
 
 -- the mark of a kept key: `cipher` in ASCII, the version of the layout, and the suite's number
 abbrev pub key_mark : Suite → ℕ

@@ -3,7 +3,8 @@ use Rattle.std.specs.Prelude.{◌≡◌, ◌≢◌, ℕ, ◌+◌, true, List}
 use Rattle.octets.specs.Numbers.{HasOutcome}
 use Rattle.aead.specs.declared.suite.Suite.{Suite}
 use Rattle.aead.specs.declared.pass_state.PassState.{PassState}
-use Rattle.aead.specs.Suites.{ByGcmSiv, construction_of, is_one_pass, suite_number}
+use Rattle.aead.specs.declared.suite.Construction.TheVariants.{GcmSiv as ByGcmSiv}
+use Rattle.aead.specs.Suites.{construction_of, is_one_pass, suite_number}
 use Rattle.aead.specs.Sealing.{Setting}
 use Rattle.aead.specs.PassStates.{HasHashKey}
 use Rattle.aead.specs.KeyedPasses.{setting_of, ResumeRefused}

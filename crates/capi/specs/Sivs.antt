@@ -4,7 +4,8 @@ use Rattle.octets.specs.Masked.{masked}
 use Rattle.octets.specs.Numbers.{HasOutcome}
 use Rattle.octets.specs.declared.fault.Fault.TheVariants.{SourceChanged}
 use Rattle.aead.specs.declared.suite.Suite.{Suite}
-use Rattle.aead.specs.Suites.{ByGcmSiv, construction_of, suite_number}
+use Rattle.aead.specs.declared.suite.Construction.TheVariants.{GcmSiv as ByGcmSiv}
+use Rattle.aead.specs.Suites.{construction_of, suite_number}
 use Rattle.aead.specs.Sealing.{Setting, mask_of, tag_of}
 use Rattle.aead.specs.Refusals.{SealRefused}
 use Rattle.aead.specs.Pieces.{Repeats}

@@ -3,7 +3,8 @@
 ghost use Rattle.std.specs.Prelude.{◌≡◌, ◌≢◌, ◌≤◌, ℕ, List, [], length, true, false, MatchResult, OnErr};
 ghost use Rattle.octets.specs.Numbers.{HasOutcome};
 ghost use Rattle.aead.specs.declared.suite.Suite.{Suite};
-ghost use Rattle.aead.specs.Suites.{ByGcmSiv, construction_of, is_one_pass, aad_limit, text_limit, suite_number};
+ghost use Rattle.aead.specs.declared.suite.Construction.TheVariants.{GcmSiv as ByGcmSiv};
+ghost use Rattle.aead.specs.Suites.{construction_of, is_one_pass, aad_limit, text_limit, suite_number};
 ghost use Rattle.aead.specs.KeyedPasses.{setting_of, HasLengths, BeginRefused};
 ghost use Rattle.aead.specs.KeyedPieces.{HoldsKeyedText, HoldsFirstReading, HoldsFirstPass};
 ghost use Rattle.capi.specs.Suites.{unknown_suite, not_begun};
@@ -19,18 +20,11 @@ use crate::sealer::StoredSealer;
 use crate::siv::StoredSiv;
 use crate::stored_key::{KEY, KeyNumbers, StoredKey};
 use crate::suites::{NOT_BEGUN, UNKNOWN_SUITE, is_siv, marked, suite_numbered};
-use crate::whole::{Direction, Keys, Opening, Sealing, open_to, run_gcm, run_in_place, seal_to};
+use crate::whole::{Direction, Keys, Opening, Sealing, open_to, run_in_place, seal_to};
 use aead::{
-    BorrowedGcm, ChaChaPoly, GcmSiv, KeyedOpener, KeyedSealer, KeyedSiv, Suite, hash_subkey,
+    BorrowedGcm, ChaChaPoly, Construction, GcmSiv, KeyedOpener, KeyedSealer, KeyedSiv, Suite,
 };
-use octets::{Fault, Key32, Nonce, WIDE, outcome_number};
-
-// Whether a message is hashed sooner with the kept multiples than with others that are computed for it. Those computed for it are
-// aligned to 16 bytes, so that an XOR takes one straight from memory, without a load before it; with wide vectors an XOR does so
-// at any address.
-fn is_short(aad: &[u8], text: &[u8]) -> bool {
-    WIDE || aad.len() < 64 && text.len() < 96
-}
+use octets::{Block, Fault, Key32, Nonce, outcome_number};
 
 // Seals or opens under a kept key with a nonce, once all lengths are known to fit.
 fn run_by_kept<D: Direction>(
@@ -49,23 +43,17 @@ fn run_by_kept<D: Direction>(
         MatchResult result (λ _. D.done s text.old tag.old text.new tag.new)
         (D.refused s text.old tag.old text.new tag.new) }
 {
-    match suite {
-        Suite::ChaCha20Poly1305 => {
+    match suite.construction() {
+        Construction::ChaChaPoly => {
             let cipher = ChaChaPoly::new(&Key32::new(kept.numbers.key));
             D::run(&cipher, nonce, aad, text, tag)
         }
-        Suite::Aes128Gcm | Suite::Aes192Gcm | Suite::Aes256Gcm => {
+        Construction::Gcm => {
             let key = kept.aes(suite);
-            let ghash_key = kept.ghash_key(suite);
-            if is_short(aad, text) {
-                let multiplier = kept.multiplier(suite);
-                let cipher = BorrowedGcm::new(suite, &key, &ghash_key, multiplier);
-                D::run(&cipher, nonce, aad, text, tag)
-            } else {
-                run_gcm::<D>(suite, &key, &ghash_key, nonce, aad, text, tag)
-            }
+            let cipher = BorrowedGcm::new(suite, &key, kept.multiplier(suite));
+            D::run(&cipher, nonce, aad, text, tag)
         }
-        Suite::Aes128GcmSiv | Suite::Aes256GcmSiv => {
+        Construction::GcmSiv => {
             let cipher = GcmSiv::new(suite, kept.aes(suite));
             D::run(&cipher, nonce, aad, text, tag)
         }
@@ -121,8 +109,8 @@ fn begin_sealer(
     ensures kept { OnErr result (sealer.new ≡ sealer.old) }
 {
     let key = &kept.numbers.key[..suite.key_length()];
-    match suite {
-        Suite::Aes128Gcm | Suite::Aes192Gcm | Suite::Aes256Gcm => {
+    match suite.construction() {
+        Construction::Gcm => {
             let (cipher, ghash_key) = (kept.aes(suite), kept.ghash_key(suite));
             sealer.begin_by(suite, key, &cipher, &ghash_key, nonce, aad)
         }
@@ -145,15 +133,15 @@ fn begin_opener(
     ensures kept { OnErr result (opener.new ≡ opener.old) }
 {
     let key = &kept.numbers.key[..suite.key_length()];
-    match suite {
-        Suite::ChaCha20Poly1305 => opener.begin(suite, key, nonce, aad, tag),
-        Suite::Aes128Gcm | Suite::Aes192Gcm | Suite::Aes256Gcm => {
+    match suite.construction() {
+        Construction::ChaChaPoly => opener.begin(suite, key, nonce, aad, tag),
+        Construction::Gcm => {
             let (cipher, ghash_key) = (kept.aes(suite), kept.ghash_key(suite));
             opener.begin_by(suite, key, &cipher, &ghash_key, nonce, aad, tag)
         }
-        Suite::Aes128GcmSiv | Suite::Aes256GcmSiv => {
-            let cipher = kept.aes(suite);
-            opener.begin_by(suite, key, &cipher, &hash_subkey(&cipher), nonce, aad, tag)
+        Construction::GcmSiv => {
+            let unused = Block::new([0; 16]);
+            opener.begin_by(suite, key, &kept.aes(suite), &unused, nonce, aad, tag)
         }
     }
 }
@@ -172,9 +160,7 @@ fn begin_siv(
         MatchResult result (λ _. HoldsFirstReading siv.new s []) (BeginRefused s) }
     ensures kept { OnErr result (siv.new ≡ siv.old) }
 {
-    let key = &kept.numbers.key[..suite.key_length()];
-    let cipher = kept.aes(suite);
-    siv.begin_by(suite, key, &cipher, &hash_subkey(&cipher), nonce, aad)
+    siv.begin_by(suite, &kept.aes(suite), nonce, aad)
 }
 
 /// Leaves zeros in the struct, whatever bytes it held: it then keeps neither a key nor a value that depends on one.

@@ -4,7 +4,8 @@
 ghost use Rattle.std.specs.Prelude.{◌≡◌, ◌≢◌, ◌+◌, ℕ, List, [], length, min, MatchResult, OnErr};
 ghost use Rattle.octets.specs.Numbers.{HasOutcome};
 ghost use Rattle.aead.specs.declared.suite.Suite.{Suite};
-ghost use Rattle.aead.specs.Suites.{ByGcmSiv, construction_of, text_limit, suite_number};
+ghost use Rattle.aead.specs.declared.suite.Construction.TheVariants.{GcmSiv as ByGcmSiv};
+ghost use Rattle.aead.specs.Suites.{construction_of, text_limit, suite_number};
 ghost use Rattle.aead.specs.Sealing.{Setting};
 ghost use Rattle.aead.specs.Pieces.{IsInFirstReading, IsInSecondReading};
 ghost use Rattle.aead.specs.KeyedPasses.{setting_of, BeginRefused};

@@ -5,12 +5,13 @@ ghost use Rattle.aes.specs.Cipher.{IsKey, IsKeyLength};
 ghost use Rattle.aes.specs.Code.ReadyKeys.{KeepsReadyKeys};
 ghost use Rattle.gf128.specs.Code.PlainMultiples.{HasMultiples, no_multiples};
 ghost use Rattle.aead.specs.declared.suite.Suite.{Suite};
-ghost use Rattle.aead.specs.Suites.{ByChaCha, ByGcm, ByGcmSiv, construction_of, key_length};
+ghost use Rattle.aead.specs.declared.suite.Construction.TheVariants.{ChaChaPoly as ByChaCha, Gcm as ByGcm, GcmSiv as ByGcmSiv};
+ghost use Rattle.aead.specs.Suites.{construction_of, key_length};
 ghost use Rattle.aead.specs.Sealing.{hash_key};
 ghost use Rattle.capi.specs.Keys.{key_mark, first_key, has_aes, has_hash_key};
 
 use crate::suites::mark_of;
-use aead::{Suite, hash_subkey};
+use aead::{Construction, Suite, hash_subkey};
 use aes::AesKey;
 use gf128::{Keyed128, Multiply, PlainMul, PlainMultiples, TableMul};
 use octets::Block;
@@ -143,10 +144,10 @@ impl StoredKey {
         requires { length key.now ≡ key_length suite }
         ensures { IsOfKey result suite key.now }
     {
-        match suite {
-            Suite::ChaCha20Poly1305 => StoredKey::of_chacha(suite, key),
-            Suite::Aes128Gcm | Suite::Aes192Gcm | Suite::Aes256Gcm => StoredKey::of_gcm(suite, key),
-            Suite::Aes128GcmSiv | Suite::Aes256GcmSiv => StoredKey::of_siv(suite, key),
+        match suite.construction() {
+            Construction::ChaChaPoly => StoredKey::of_chacha(suite, key),
+            Construction::Gcm => StoredKey::of_gcm(suite, key),
+            Construction::GcmSiv => StoredKey::of_siv(suite, key),
         }
     }
 

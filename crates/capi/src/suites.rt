@@ -2,9 +2,10 @@
 
 ghost use Rattle.std.specs.Prelude.{◌≡◌, ◌↔◌, ◌+◌, ◌<◌, ◌^◌, true, false};
 ghost use Rattle.aead.specs.declared.suite.Suite.{Suite};
-ghost use Rattle.aead.specs.Suites.{ByGcmSiv, construction_of, is_one_pass, suite_number};
+ghost use Rattle.aead.specs.declared.suite.Construction.TheVariants.{GcmSiv as ByGcmSiv};
+ghost use Rattle.aead.specs.Suites.{construction_of, is_one_pass, suite_number};
 
-use aead::Suite;
+use aead::{Construction, Suite};
 
 // The status of a call that takes no suite with the given number.
 pub(crate) const UNKNOWN_SUITE: u32 = 14;
@@ -92,9 +93,8 @@ pub(crate) fn is_siv(suite: Suite) -> bool
     ensures yes { result ≡ true → construction_of suite ≡ ByGcmSiv }
     ensures no { result ≡ false → is_one_pass (construction_of suite) ≡ true }
 {
-    match suite {
-        Suite::ChaCha20Poly1305 => false,
-        Suite::Aes128Gcm | Suite::Aes192Gcm | Suite::Aes256Gcm => false,
-        Suite::Aes128GcmSiv | Suite::Aes256GcmSiv => true,
+    match suite.construction() {
+        Construction::ChaChaPoly | Construction::Gcm => false,
+        Construction::GcmSiv => true,
     }
 }

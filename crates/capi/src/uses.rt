@@ -2,7 +2,8 @@
 
 ghost use Rattle.std.specs.Prelude.{◌≡◌, ◌++◌, true};
 ghost use Rattle.aead.specs.declared.suite.Suite.{Suite};
-ghost use Rattle.aead.specs.Suites.{ByGcmSiv, construction_of, is_one_pass, suite_number};
+ghost use Rattle.aead.specs.declared.suite.Construction.TheVariants.{GcmSiv as ByGcmSiv};
+ghost use Rattle.aead.specs.Suites.{construction_of, is_one_pass, suite_number};
 ghost use Rattle.aead.specs.Sealing.{Opened, sealing};
 ghost use Rattle.aead.specs.KeyedPasses.{setting_of};
 

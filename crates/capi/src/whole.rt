@@ -5,7 +5,8 @@ ghost use Rattle.std.specs.Prelude.{◌≡◌, ◌≢◌, ◌≤◌, ◌++◌, �
 ghost use Rattle.octets.specs.declared.fault.Fault.{Fault};
 ghost use Rattle.octets.specs.Numbers.{HasOutcome};
 ghost use Rattle.aead.specs.declared.suite.Suite.{Suite};
-ghost use Rattle.aead.specs.Suites.{construction_of, key_length, aad_limit, text_limit, ByGcm, suite_number};
+ghost use Rattle.aead.specs.declared.suite.Construction.TheVariants.{Gcm as ByGcm};
+ghost use Rattle.aead.specs.Suites.{construction_of, key_length, aad_limit, text_limit, suite_number};
 ghost use Rattle.aead.specs.Sealing.{Setting, hash_key};
 ghost use Rattle.aead.specs.Ciphers.{Keyed, setting};
 ghost use Rattle.aead.specs.KeyedPasses.{setting_of, HasLengths, BeginRefused};
@@ -14,9 +15,10 @@ ghost use Rattle.capi.specs.Whole.{WasSealed, WasNotSealed, WasOpened, WasNotOpe
 ghost use Rattle.capi.specs.Whole.{length_refuses};
 
 use crate::suites::{OUTPUT_LENGTH, UNKNOWN_SUITE, suite_numbered};
-use aead::{Aead, ChaChaPoly, GcmKeys, GcmSiv, Suite, hash_subkey};
+use aead::{Aead, BorrowedGcm, ChaChaPoly, Construction, GcmSiv, Suite, hash_subkey};
 use aes::AesKey;
-use octets::{Block, Fault, Key32, Nonce, Tag, outcome_number};
+use gf128::{Keyed128, TableMul};
+use octets::{Fault, Key32, Nonce, Tag, outcome_number};
 
 // Returns the nonce with these 12 bytes. It is not taken out of a `Result`: there it would share its first byte with the fault,
 // and LLVM copies that byte by itself, so that the cipher waits for it.
@@ -99,30 +101,6 @@ impl Direction for Opening {
     }
 }
 
-// Seals or opens under AES-GCM with a key and its hash subkey, whose multiples are computed for this message.
-#[inline(always)]
-pub(crate) fn run_gcm<D: Direction>(
-    suite: Suite,
-    key: &AesKey,
-    ghash_key: &Block,
-    nonce: &Nonce,
-    aad: &[u8],
-    text: &mut [u8],
-    tag: &mut [u8; 16],
-) -> Result<(), Fault>
-    requires by_gcm { construction_of suite ≡ ByGcm }
-    requires long { length key.now ≡ key_length suite }
-    requires ghash_key { ghash_key.now ≡ hash_key key.now }
-    requires nonce { length nonce.now ≡ 12 }
-    requires aad_fits { length aad.now ≤ aad_limit suite }
-    requires text_fits { length text.old ≤ text_limit suite }
-    ensures { let s = setting_of suite key.now nonce.now aad.now in
-        MatchResult result (λ _. D.done s text.old tag.old text.new tag.new)
-        (D.refused s text.old tag.old text.new tag.new) }
-{
-    D::run(&GcmKeys::new(suite, key, ghash_key), nonce, aad, text, tag)
-}
-
 // A suite and a key, which is given as bytes or kept in a struct.
 pub(crate) trait Keys {
     // The suite and the key.
@@ -151,6 +129,36 @@ pub(crate) trait Keys {
         ensures { let s = setting (keyed self.now) nonce.now aad.now in
             MatchResult result (λ _. D.done s text.old tag.old text.new tag.new)
             (D.refused s text.old tag.old text.new tag.new) };
+}
+
+// Seals or opens under AES-GCM with the bytes of a key. It is not inlined, since the compiler clears the locals of all arms of a
+// `match` when the function is entered. The multiples are no local, since one would be copied.
+#[inline(never)]
+fn run_gcm<D: Direction>(
+    suite: Suite,
+    key: &[u8],
+    nonce: &Nonce,
+    aad: &[u8],
+    text: &mut [u8],
+    tag: &mut [u8; 16],
+) -> Result<(), Fault>
+    requires by_gcm { construction_of suite ≡ ByGcm }
+    requires long { length key.now ≡ key_length suite }
+    requires nonce { length nonce.now ≡ 12 }
+    requires aad_fits { length aad.now ≤ aad_limit suite }
+    requires text_fits { length text.old ≤ text_limit suite }
+    ensures { let s = setting_of suite key.now nonce.now aad.now in
+        MatchResult result (λ _. D.done s text.old tag.old text.new tag.new)
+        (D.refused s text.old tag.old text.new tag.new) }
+{
+    let key = AesKey::from_slice(key).unwrap();
+    D::run(
+        &BorrowedGcm::new(suite, &key, &TableMul::of(&hash_subkey(&key))),
+        nonce,
+        aad,
+        text,
+        tag,
+    )
 }
 
 // A suite and the bytes of a key.
@@ -185,16 +193,13 @@ impl<'a> Keys for ByBytes<'a> {
         tag: &mut [u8; 16],
     ) -> Result<(), Fault> {
         let suite = self.suite;
-        match suite {
-            Suite::ChaCha20Poly1305 => {
+        match suite.construction() {
+            Construction::ChaChaPoly => {
                 let cipher = ChaChaPoly::new(&Key32::from_slice(self.key).unwrap());
                 D::run(&cipher, nonce, aad, text, tag)
             }
-            Suite::Aes128Gcm | Suite::Aes192Gcm | Suite::Aes256Gcm => {
-                let key = AesKey::from_slice(self.key).unwrap();
-                run_gcm::<D>(suite, &key, &hash_subkey(&key), nonce, aad, text, tag)
-            }
-            Suite::Aes128GcmSiv | Suite::Aes256GcmSiv => {
+            Construction::Gcm => { run_gcm::<D>(suite, self.key, nonce, aad, text, tag) }
+            Construction::GcmSiv => {
                 let cipher = GcmSiv::new(suite, AesKey::from_slice(self.key).unwrap());
                 D::run(&cipher, nonce, aad, text, tag)
             }

@@ -97,14 +97,14 @@ chacha_masks a b was now did = λ s tag n h room.
       applied.masked_is ∙ sym (ap (λ f. masked f n was) (chacha_mask s tag h.0)),
     )
 
-pub gcm_masks : {C K : Type 0} (kept : K → List ℕ) (a b : Ctr C K) (was now : List ℕ)
-    → Did up_be kept a b was now → Masks (MadeByGcm kept) a b was now
-gcm_masks kept a b was now did = λ s tag n h room.
+pub gcm_masks : {C : Type 0} (a b : Ctr C) (was now : List ℕ) → Did up_be a b was now
+    → Masks MadeByGcm a b was now
+gcm_masks a b was now did = λ s tag n h room.
     let applied = did _ _ n h.1 in
     ((h.0, applied.0), applied.1 ∙ sym (ap (λ f. masked f n was) (gcm_mask s tag h.0)))
 
-pub siv_masks : {C K : Type 0} (kept : K → List ℕ) (a b : Ctr C K) (was now : List ℕ)
-    → Did up_le kept a b was now → Masks (MadeByGcmSiv kept) a b was now
-siv_masks kept a b was now did = λ s tag n h room.
+pub siv_masks : {C : Type 0} (a b : Ctr C) (was now : List ℕ) → Did up_le a b was now
+    → Masks MadeByGcmSiv a b was now
+siv_masks a b was now did = λ s tag n h room.
     let applied = did _ _ n h.1 in
     ((h.0, applied.0), applied.1 ∙ sym (ap (λ f. masked f n was) (siv_mask s tag h.0)))

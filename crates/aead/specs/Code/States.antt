@@ -25,13 +25,13 @@ abbrev pub MadeByChaCha : ChaStream → Setting → List ℕ → ℕ → Type 0
 MadeByChaCha m s tag n = (construction_of s.suite ≡ ByChaCha) × chacha.Holds m s.key s.nonce 1 n
 
 -- m has made n bytes of the mask of a message of GCM
-abbrev pub MadeByGcm : {C K : Type 0} → (K → List ℕ) → Ctr C K → Setting → List ℕ → ℕ → Type 0
-MadeByGcm kept m s tag n = (construction_of s.suite ≡ ByGcm) × Holds up_be kept m s.key (up_be (j0 s.nonce) 1) n
+abbrev pub MadeByGcm : {C : Type 0} → Ctr C → Setting → List ℕ → ℕ → Type 0
+MadeByGcm m s tag n = (construction_of s.suite ≡ ByGcm) × Holds up_be m s.key (up_be (j0 s.nonce) 1) n
 
 -- m has made n bytes of the mask of a message of GCM-SIV under this tag
-abbrev pub MadeByGcmSiv : {C K : Type 0} → (K → List ℕ) → Ctr C K → Setting → List ℕ → ℕ → Type 0
-MadeByGcmSiv kept m s tag n =
-    (construction_of s.suite ≡ ByGcmSiv) × Holds up_le kept m (encryption_key s.key s.nonce) (counter_block tag) n
+abbrev pub MadeByGcmSiv : {C : Type 0} → Ctr C → Setting → List ℕ → ℕ → Type 0
+MadeByGcmSiv m s tag n =
+    (construction_of s.suite ≡ ByGcmSiv) × Holds up_le m (encryption_key s.key s.nonce) (counter_block tag) n
 
 -- ---- h holds the text m under the keys of a message
 
@@ -49,10 +49,10 @@ HeldByGhash key_bytes h s m =
 -- For POLYVAL only the fact is stated (`∥ .. ∥₁`).
 abbrev pub HeldByPolyval : {M K : Type 0} → (M → List ℕ) → (K → List ℕ) → PolyvalTag M K → Setting → List ℕ
     → Type 0
-HeldByPolyval key_bytes kept h s m =
+HeldByPolyval key_bytes key h s m =
     (construction_of s.suite ≡ ByGcmSiv)
     × ∥ gf128.PolyvalHolds key_bytes h.hash (authentication_key s.key s.nonce) m ∥₁
-    × (kept h.key ≡ encryption_key s.key s.nonce) × (h.nonce ≡ s.nonce)
+    × (key h.key ≡ encryption_key s.key s.nonce) × (h.nonce ≡ s.nonce)
 
 -- ---- whole parts
 

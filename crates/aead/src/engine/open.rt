@@ -19,7 +19,6 @@ use crate::engine::opening::pass_opening;
 use crate::engine::passes::Finding;
 use crate::engine::verifying::verify_one_pass;
 use crate::suite::Suite;
-use gf128::WideMul;
 use octets::{Fault, Intake, Nonce, Outlet};
 
 // The first step: measures the length and the tag.
@@ -73,23 +72,11 @@ fn verify_reading<I: Intake>(
             verify_one_pass(&cipher.nonced(nonce), aad, intake, measured)
         }
         AnyAead::OnePass(AnyOnePass::Gcm(cipher)) => {
-            let multiplier = cipher.multiplier_of::<WideMul>();
-            verify_one_pass(
-                &cipher.nonced(nonce, cipher.key(), &multiplier),
-                aad,
-                intake,
-                measured,
-            )
+            let multiplier = cipher.wide_multiplier();
+            verify_one_pass(&cipher.nonced(nonce, &multiplier), aad, intake, measured)
         }
         AnyAead::Siv(_) => {
-            match pass_opening::<WideMul, I, Discard>(
-                cipher,
-                nonce,
-                aad,
-                intake,
-                measured,
-                &mut Discard,
-            ) {
+            match pass_opening(cipher, nonce, aad, intake, measured, &mut Discard) {
                 Ok(finding) => Ok(finding),
                 Err(_) => Err(Fault::Read),
             }
@@ -138,7 +125,7 @@ fn write_step<I: Intake, O: Outlet>(
         (I.failures intake.old) (I.failures intake.new)
         (O.failures outlet.old) (O.failures outlet.new) result) }
 {
-    match pass_opening::<WideMul, I, O>(cipher, nonce, aad, intake, measured, outlet) {
+    match pass_opening(cipher, nonce, aad, intake, measured, outlet) {
         Ok(finding) => answer_write(finding),
         Err(fault) => Err(fault),
     }

@@ -14,7 +14,7 @@ use crate::engine::passes::{Finding, pass};
 use crate::masking::Masking;
 use crate::one_pass::OnePass;
 use crate::two_pass::TwoPass;
-use gf128::Keyed128;
+use gf128::{Keyed128, WideMul};
 use octets::{Fault, Intake, Nonce, Outlet};
 
 // Opens a whole reading by a cipher with a nonce whose tag is over the ciphertext.
@@ -62,8 +62,8 @@ fn open_two_pass<N: TwoPass, I: Intake, O: Outlet>(
     pass(intake, opening, measured, outlet)
 }
 
-// Opens a whole reading by a cipher of any suite, with a multiplier of the type `M`.
-pub(crate) fn pass_opening<M: Keyed128, I: Intake, O: Outlet>(
+// Opens a whole reading by a cipher of any suite.
+pub(crate) fn pass_opening<I: Intake, O: Outlet>(
     cipher: &AnyAead,
     nonce: &Nonce,
     aad: &[u8],
@@ -84,13 +84,13 @@ pub(crate) fn pass_opening<M: Keyed128, I: Intake, O: Outlet>(
             open_one_pass(&cipher.nonced(nonce), aad, intake, measured, outlet)
         }
         AnyAead::OnePass(AnyOnePass::Gcm(cipher)) => {
-            let multiplier = cipher.multiplier_of::<M>();
-            let message = cipher.nonced(nonce, cipher.key(), &multiplier);
+            let multiplier = cipher.wide_multiplier();
+            let message = cipher.nonced(nonce, &multiplier);
             open_one_pass(&message, aad, intake, measured, outlet)
         }
         AnyAead::Siv(cipher) => {
             let keys = cipher.derive(nonce);
-            let multiplier = M::of(&keys.hash_key);
+            let multiplier = WideMul::of(&keys.hash_key);
             let message = cipher.nonced(nonce, &keys.encryption, &multiplier);
             open_two_pass(&message, aad, intake, measured, outlet)
         }

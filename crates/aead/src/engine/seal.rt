@@ -13,7 +13,6 @@ use crate::beside::Order;
 use crate::engine::passes::pass_all;
 use crate::masking::Masking;
 use crate::one_pass::OnePass;
-use gf128::WideMul;
 use octets::{Fault, Intake, Nonce, Outlet, give_all};
 
 // Seals a stream in one reading, by a cipher with a nonce.
@@ -75,13 +74,8 @@ pub fn seal_stream<I: Intake, O: Outlet>(
     match cipher {
         AnyOnePass::ChaCha(cipher) => seal_over(&cipher.nonced(nonce), aad, text, out),
         AnyOnePass::Gcm(cipher) => {
-            let multiplier = cipher.multiplier_of::<WideMul>();
-            seal_over(
-                &cipher.nonced(nonce, cipher.key(), &multiplier),
-                aad,
-                text,
-                out,
-            )
+            let multiplier = cipher.wide_multiplier();
+            seal_over(&cipher.nonced(nonce, &multiplier), aad, text, out)
         }
     }
 }

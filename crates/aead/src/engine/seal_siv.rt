@@ -112,33 +112,6 @@ fn seal_over<N: TwoPass, I: Intake, J: Intake, O: Outlet>(
     }
 }
 
-// Seals a stream in two readings, with a multiplier of the type `M`.
-fn seal_by<M: Keyed128, I: Intake, J: Intake, O: Outlet>(
-    cipher: &GcmSiv,
-    nonce: &Nonce,
-    aad: &[u8],
-    first: &mut I,
-    second: &mut J,
-    out: &mut O,
-) -> Result<(), Fault>
-    requires { length aad.now ≤ aad_limit cipher.now.suite }
-    ensures blame { SivBlames (Fault.TextTooLong ∷ Fault.SourceChanged ∷ [])
-        (record { first = I.failures first.old; second = J.failures second.old; outlet = O.failures out.old })
-        (record { first = I.failures first.new; second = J.failures second.new; outlet = O.failures out.new })
-        result }
-    ensures seals { IfBothKnown (I.left first.old) (J.left second.old) (O.taken out.old) (O.taken out.new)
-        (λ a b given. SealsSivStream (setting cipher.now nonce.now aad.now) a b given
-        (record { first = I.failures first.old; second = J.failures second.old; outlet = O.failures out.old })
-        (record { first = I.failures first.new; second = J.failures second.new; outlet = O.failures out.new })
-        result) }
-    ensures untouched { UntouchedUnless late_in_readings out.old out.new result }
-{
-    let keys = cipher.derive(nonce);
-    let multiplier = M::of(&keys.hash_key);
-    let message = cipher.nonced(nonce, &keys.encryption, &multiplier);
-    seal_over(&message, aad, first, second, out)
-}
-
 /// Seals a stream in two readings under AES-GCM-SIV: the first is authenticated, and of the second each
 /// piece is encrypted and given before the next one is taken; the tag is given last, once the second
 /// reading has shown the length and the tag of the first. Does not allocate, and holds buffers of a
@@ -175,5 +148,8 @@ pub fn seal_siv_stream<I: Intake, J: Intake, O: Outlet>(
     ensures untouched { UntouchedUnless late_in_readings out.old out.new result }
 {
     cipher.suite().check_aad(aad)?;
-    seal_by::<WideMul, I, J, O>(cipher, nonce, aad, first, second, out)
+    let keys = cipher.derive(nonce);
+    let multiplier = WideMul::of(&keys.hash_key);
+    let message = cipher.nonced(nonce, &keys.encryption, &multiplier);
+    seal_over(&message, aad, first, second, out)
 }

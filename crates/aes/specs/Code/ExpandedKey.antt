@@ -97,7 +97,3 @@ fields_of-key_of a x =
     ap (λ n. n / 4) x.length_is ∙ mul-div_cancel_left a.size (lit< tt) in
     let fields : List (List ℕ) → ℕ → Inside = λ keys size. record { keys = keys; size = size } in
     ap₂ fields (keys_are_stored a.keys (key_of a.keys a.size) x.keys_are) size
-
--- the bytes of an owned key
-abbrev pub own_key : List ℕ → List ℕ
-own_key key = key

@@ -36,13 +36,13 @@ pub record AdvancesFront {C : Type 0} (up : List ℕ → ℕ → List ℕ) (key 
   pub left : drop n now ≡ drop n was
   pub front : Advances up key s t (take n was) (take n now)
 
--- s has produced this many bytes of the stream that counts with `up` from the first block on, under the key that `bytes` gives
-pub record Holds {C K : Type 0} (up : List ℕ → ℕ → List ℕ) (bytes : K → List ℕ) (s : Ctr C K) (key : List ℕ)
-    (first : List ℕ) (position : ℕ) : Type 0 where
-  pub key_is : bytes s.key ≡ key
+-- s has produced this many bytes of the stream that counts with `up` from the first block on, under its key
+pub record Holds {C : Type 0} (up : List ℕ → ℕ → List ℕ) (s : Ctr C) (key : List ℕ) (first : List ℕ) (position : ℕ)
+    : Type 0 where
+  pub key_is : s.key.now ≡ key
   pub makes : Makes up s.counter key first position
 
 -- s becomes t, and was becomes now: the next bytes of the stream that counts with `up` are XORed in, beside other work
-abbrev pub Did : {C K : Type 0} → (List ℕ → ℕ → List ℕ) → (K → List ℕ) → Ctr C K → Ctr C K → List ℕ → List ℕ → Type 0
-Did up bytes s t was now = (key first : List ℕ) (position : ℕ) → Holds up bytes s key first position
-    → Holds up bytes t key first (position + length was) × (now ≡ masked (counter_byte up key first) position was)
+abbrev pub Did : {C : Type 0} → (List ℕ → ℕ → List ℕ) → Ctr C → Ctr C → List ℕ → List ℕ → Type 0
+Did up s t was now = (key first : List ℕ) (position : ℕ) → Holds up s key first position
+    → Holds up t key first (position + length was) × (now ≡ masked (counter_byte up key first) position was)

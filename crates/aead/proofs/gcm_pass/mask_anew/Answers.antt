@@ -1,10 +1,10 @@
-use Rattle.std.proofs.Common.{◌∙◌}
+use Rattle.std.proofs.Common.{subst, ◌∙◌}
+use Rattle.aead.specs.Suites.{Construction}
+use Rattle.aead.specs.PassStates.{IsHashKey}
 use Rattle.aead.proofs.gcm_pass.mask_anew.Goals as goal
 
-pub returns-in-Few : goal.returns-in-Few
-returns-in-Few c = λ s tag fed by keys nonce.
-    c.mask_by.ensures s tag fed by (c.schedule-key.ensures ∙ keys) nonce
-
-pub returns-in-OfFourPowers : goal.returns-in-OfFourPowers
-returns-in-OfFourPowers c = λ s tag fed by keys nonce.
-    c.mask_by-in-OfFourPowers.ensures s tag fed by (c.schedule-key.ensures ∙ keys) nonce
+pub returns : goal.returns
+returns c = λ s tag fed by key nonce long fits h knows.
+    let hash = subst (λ (x : Construction). IsHashKey x c.args.state.now.hash_key s) by h.hash_key_is in
+    let few = c.of-few.ensures ∙ c.multiplier_key.ensures ∙ hash.0 in
+    c.mask_expanded.ensures s tag fed by (c.schedule-key.ensures ∙ key, few) nonce long fits h knows

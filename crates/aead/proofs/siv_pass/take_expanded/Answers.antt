@@ -1,4 +1,4 @@
 use Rattle.aead.proofs.siv_pass.take_expanded.Goals as goal
 
-pub returns-in-Few : goal.returns-in-Few
-returns-in-Few c = λ s bytes by keys nonce. c.take.ensures.takes s bytes (by, keys.1, keys.0, nonce)
+pub returns : goal.returns
+returns c = λ s bytes by keys nonce. c.take.ensures.takes s bytes (by, keys.1, keys.0, nonce)

@@ -21,6 +21,3 @@ returns-in_err-check_aad-clause-seals g c =
       outlet = g.O.Outlet.failures c.args.out.now;
     })
     (λ h. omega (arith, h, c.in_err-check_aad.ensures.1, ap aad_limit c.suite.ensures.value)))
-
-pub returns-clause-seals : goal.returns-clause-seals
-returns-clause-seals g c = c.seal_by.ensures.seals

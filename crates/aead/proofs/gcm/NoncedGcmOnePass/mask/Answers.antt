@@ -8,7 +8,7 @@ use Rattle.aead.proofs.gcm.NoncedGcmOnePass.mask.Goals as goal
 pub returns : goal.returns
 returns g c = λ aad tag.
     let m = c.args.self.now in
-    let P : List ℕ → Type 0 = λ b. Holds up_be g.K.KeptKey.bytes c.new.result (g.K.KeptKey.bytes m.key) b 0 in
+    let P : List ℕ → Type 0 = λ b. Holds up_be c.new.result m.key.now b 0 in
     let first : c.counter_block.result ≡ up_be (j0 m.nonce.now) 1 =
     c.counter_block.ensures.value ∙ sym (first_block m.nonce.now c.counter_block.ensures.nonce_length) in
     (m.by_gcm, subst P first c.new.ensures)

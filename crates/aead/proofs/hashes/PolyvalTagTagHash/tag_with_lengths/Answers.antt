@@ -24,8 +24,8 @@ returns g c = λ s m h fits is_aad is_bytes.
     let whole : length (fed ++ c.joined.result) % 16 ≡ 0 = whole_ended (pad16 s.aad ++ m) c.joined.result long in
     ∥∥₁_elim h.1 (hlevel props) (λ held.
     by_polyval s m _ _ _ _ _ h.0 h.2 h.3 is_aad is_bytes
-    (c.new-2.ensures.value ∙ c.bytes-3.ensures.value ∙ c.encrypt_in_registers.ensures.value
-    ∙ ap₂ cipher c.kept.ensures
+    (c.new-2.ensures.value ∙ c.bytes-3.ensures.value ∙ c.encrypt.ensures
+    ∙ ap (cipher (g.K.TagCipher.key c.args.self.now.key))
     (c.new.ensures.value ∙ c.tag_block-block.ensures
     ∙ ap₂ tag_block
     (c.bytes.ensures.value ∙ c.hash.ensures.value k _ (c.pad16_and_add.ensures k (pad16 s.aad ++ m) held) whole

@@ -6,7 +6,7 @@ use Rattle.aead.proofs.keyed_siv.KeyedSiv.begin_by.Goals as goal
 
 pub returns-in-Ok-clause-answer : goal.returns-in-Ok-clause-answer
 returns-in-Ok-clause-answer c =
-    let s : Setting = setting_of c.args.suite c.args.key.now c.args.nonce.now c.args.aad.now in
+    let s : Setting = setting_of c.args.suite c.args.cipher.now c.args.nonce.now c.args.aad.now in
     let begun = c.in-Ok.ensures.answer in
     record {
       by_gcm_siv = c.requires.by;

@@ -1,5 +1,0 @@
-use Rattle.std.proofs.Common.{rules}
-use Rattle.aead.proofs.suite.Suite.text_limit.Goals as goal
-
-pub returns-in-Aes128Gcm : goal.returns-in-Aes128Gcm
-returns-in-Aes128Gcm c = search rules
