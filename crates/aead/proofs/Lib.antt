@@ -28,4 +28,4 @@ mod ByteMasks
 mod PassStates
 mod Resumption
 mod KeyedPasses
-mod KeyedPieces
+mod TakenIn

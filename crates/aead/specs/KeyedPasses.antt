@@ -11,7 +11,7 @@ use Rattle.aead.specs.declared.key_and_nonce.KeyAndNonce.{KeyAndNonce}
 use Rattle.aead.specs.declared.pass_state.PassState.{PassState}
 use Rattle.aead.specs.Suites.{Construction, ByChaCha, ByGcm, ByGcmSiv, construction_of, key_length, aad_limit}
 use Rattle.aead.specs.Sealing.{Setting, encryption_key}
-use Rattle.aead.specs.PassStates.{HoldsSome}
+use Rattle.aead.specs.PassStates.{HoldsNumbers, HoldsSome}
 
 -- the setting of a message, from a suite and the bytes that the caller hands in
 abbrev pub setting_of : Suite → (key nonce aad : List ℕ) → Setting
@@ -52,6 +52,10 @@ pub record HasKeys (p : KeyAndNonce) (s : Setting) : Type 0 where
   pub key_is : take (key_length s.suite) p.key ≡ cipher_key (construction_of s.suite) s
   pub padded : drop (key_length s.suite) p.key ≡ replicate (32 - key_length s.suite) 0
   pub nonce_is : p.nonce ≡ s.nonce
+
+-- p has the keys of a message, and n is its initial state
+abbrev pub HasBegun : KeyAndNonce → PassState → Setting → Type 0
+HasBegun p n s = HasKeys p s × HoldsNumbers n s []
 
 -- the bytes of a ciphertext that are authenticated: the ciphertext itself, or for AES-GCM-SIV the text that the mask gives
 abbrev pub authenticated_by : Construction → (mask : ℕ → ℕ) → List ℕ → List ℕ

@@ -12,5 +12,4 @@ pub mod Verdict
 pub mod SealStream
 pub mod SealSivStream
 pub mod KeyedPasses
-pub mod KeyedPieces
 pub mod Code

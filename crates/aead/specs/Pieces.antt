@@ -15,7 +15,7 @@ use Rattle.aead.specs.declared.siv_keys.SivKeys.{SivKeys}
 use Rattle.aead.specs.declared.two_pass_state.TwoPassState.{TwoPassState}
 use Rattle.aead.specs.Suites.{Construction, ByGcmSiv, construction_of, is_one_pass, text_limit, text_limit_by}
 use Rattle.aead.specs.Sealing.{Setting, Opened, authentication_key, encryption_key, mask_of, tag_of, sealing}
-use Rattle.aead.specs.PassStates.{HoldsNumbers, HoldsState, IsStart}
+use Rattle.aead.specs.PassStates.{HoldsNumbers, HoldsState, IsStart, zero_state, zero_sum}
 use Rattle.aead.specs.KeyedPasses.{HasKeys, KnowsCipherOf, authenticated_by}
 use Rattle.aead.specs.Code.MessageKeys.{construction_by, AreKeysOf}
 
@@ -33,6 +33,10 @@ pub record AreKeys (k : SivKeys) (s : Setting) : Type 0 where
   pub hash_key_is : Serves Reversed (authentication_key s.key s.nonce) k.hash_key
   pub multiplier_is : key_of k.multiplier ≡ k.hash_key
   pub nonce_is : k.nonce ≡ s.nonce
+
+-- the state of two readings or passes whose numbers are all zeros
+abbrev pub zero_passes : TwoPassState
+zero_passes = record { pass = zero_state; start = zero_sum; tag = replicate 16 0; first = 0 }
 
 -- n is the state of a first reading that has taken in this text
 pub record IsInFirstReading (n : TwoPassState) (s : Setting) (text : List ℕ) : Type 0 where

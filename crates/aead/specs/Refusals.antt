@@ -1,5 +1,5 @@
 -- Why a call is refused: its checks in their order, and for a call over devices also the device that failed.
-use Rattle.std.specs.Prelude.{◌≡◌, ℕ, ◌+◌, ◌≤◌, ◌⊎◌, List, [], ◌∷◌, ◌++◌, length, Result, MatchResult}
+use Rattle.std.specs.Prelude.{◌≡◌, ℕ, ◌+◌, ◌<◌, ◌≤◌, ◌⊎◌, List, [], ◌∷◌, ◌++◌, length, Result, MatchResult}
 use Rattle.std.specs.Prelude.{IfErr}
 use Rattle.octets.specs.declared.fault.Fault.{Fault}
 use Rattle.octets.specs.declared.fault.Fault.TheVariants.{TextTooLong, AadTooLong, TooShort, TagMismatch}
@@ -13,6 +13,11 @@ use Rattle.aead.specs.Sealing.{Setting, IsSealing}
 abbrev pub SealRefused : Setting → List ℕ → Fault → Type 0
 SealRefused s text = FirstOf (AadTooLong unless (length s.aad ≤ aad_limit s.suite)
     ∷ TextTooLong unless (length text ≤ text_limit s.suite) ∷ [])
+
+-- a call that adds bytes to a count returns `Ok` if the sum is within the limit, and this fault if it is past the limit
+abbrev pub FitsIn : Fault → Result (Unit {0}) Fault → (count added limit : ℕ) → Type 0
+FitsIn fault r count added limit =
+    MatchResult r (λ _. count + added ≤ limit) (λ e. (e ≡ fault) × (limit < count + added))
 
 -- why a body and a tag are not opened in place
 abbrev pub OpenRefused : Setting → List ℕ → List ℕ → Fault → Type 0

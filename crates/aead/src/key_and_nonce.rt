@@ -1,14 +1,15 @@
-//! The key and the nonce of a message as plain numbers, under any suite, for a caller that stores its state in its own memory. Only
-//! the bytes of the key are stored: each step makes the key schedule and the table of the hash key that it needs.
+//! The key and the nonce of a message as plain numbers, under any suite, for a caller that stores a message in pieces in its own memory.
+//! Only the bytes of the key are stored: each step makes the key schedule and the table of the hash key that it needs.
 
-ghost use Rattle.std.specs.Prelude.{◌≡◌, ◌≤◌, ◌-◌, ℕ, List, [], length, take, drop, replicate};
+ghost use Rattle.std.specs.Prelude.{◌≡◌, ◌≤◌, ◌-◌, ℕ, List, length, take, drop, replicate};
 ghost use Rattle.std.specs.Prelude.{MatchResult, IfOk, OnErr};
 ghost use Rattle.aes.specs.Cipher.{IsKey};
 ghost use Rattle.gf128.specs.Orders.{Reversed, Serves};
 ghost use Rattle.aead.specs.Suites.{ByChaCha, ByGcm, ByGcmSiv, construction_of, key_length, aad_limit};
 ghost use Rattle.aead.specs.Sealing.{Setting, hash_key, authentication_key, encryption_key};
-ghost use Rattle.aead.specs.PassStates.{HasHashKey, HoldsNumbers};
+ghost use Rattle.aead.specs.PassStates.{HasHashKey};
 ghost use Rattle.aead.specs.KeyedPasses.{setting_of, BeginRefused, ResumeRefused};
+ghost use Rattle.aead.specs.Pieces.{MasksByBytes};
 ghost use Rattle.aead.specs.Code.MessageKeys.{construction_by, AreKeysOf};
 
 use crate::chacha_poly::one_time_key;
@@ -24,20 +25,24 @@ use crate::{gcm_pass, siv_pass};
 use aes::AesKey;
 use octets::{Block, Fault, Key32, Nonce};
 
-// A key and a nonce. Each number may have any value.
+/// The key and the nonce of a message as plain numbers, 44 bytes. Each number may have any value.
+///
+/// They stand beside the state of the message, a [`PassState`] or a [`crate::TwoPassState`], and lend the keys for each of its steps
+/// ([`KeyAndNonce::keys`]). For short pieces under the AES suites [`crate::Sealer`] and [`crate::SivAbsorb`] are faster: they have a key
+/// schedule, which each step makes again here.
 #[repr(C)]
 #[derive(Clone, Copy)]
-pub(crate) struct KeyAndNonce {
+pub struct KeyAndNonce {
     // The key that the message is encrypted with, and zeros after it. Under AES-GCM-SIV this is the message's own encryption key.
     key: [u8; 32],
     nonce: [u8; 12],
 }
 
 impl KeyAndNonce {
-    ghost use Rattle.aead.specs.KeyedPasses.{zero_keys, HasKeys};
+    ghost use Rattle.aead.specs.KeyedPasses.{zero_keys, HasKeys, HasBegun};
 
-    // All zeros.
-    pub(crate) fn zeros() -> KeyAndNonce
+    /// All zeros.
+    pub fn zeros() -> KeyAndNonce
         ensures { result ≡ zero_keys }
     {
         KeyAndNonce {
@@ -63,9 +68,9 @@ impl KeyAndNonce {
         }
     }
 
-    // Lends the keys for a step.
+    /// Lends the keys for a step of a message under its suite.
     #[inline(always)]
-    pub(crate) fn keys<'a>(&'a self, suite: Suite) -> MessageKeys<'a>
+    pub fn keys<'a>(&'a self, suite: Suite) -> MessageKeys<'a>
         ensures by { construction_by result.cipher ≡ construction_of suite }
         ensures keys { (s : Setting) → s.suite ≡ suite → HasKeys self.now s → AreKeysOf result s }
     {
@@ -103,7 +108,7 @@ impl KeyAndNonce {
     )
         requires by { construction_of suite ≡ ByChaCha }
         requires fits { length aad.now ≤ aad_limit suite }
-        ensures { let s = setting_of suite key.now nonce.now aad.now in HasKeys self.new s × HoldsNumbers state.new s [] }
+        ensures { HasBegun self.new state.new (setting_of suite key.now nonce.now aad.now) }
     {
         *self = KeyAndNonce::of(key.bytes(), nonce);
         *state = PassState::initial(&PolyKeys, one_time_key(key, nonce), aad);
@@ -126,7 +131,7 @@ impl KeyAndNonce {
         requires cipher { cipher.now ≡ key.now }
         requires ghash_key { ghash_key.now ≡ hash_key key.now }
         requires fits { length aad.now ≤ aad_limit suite }
-        ensures { let s = setting_of suite key.now nonce.now aad.now in HasKeys self.new s × HoldsNumbers state.new s [] }
+        ensures { HasBegun self.new state.new (setting_of suite key.now nonce.now aad.now) }
     {
         *self = KeyAndNonce::of(key, nonce);
         *state = gcm_pass::initial_state_by_key(cipher, ghash_key, nonce, aad);
@@ -145,7 +150,7 @@ impl KeyAndNonce {
         requires by { construction_of suite ≡ ByGcm }
         requires long { length key.now ≡ key_length suite }
         requires fits { length aad.now ≤ aad_limit suite }
-        ensures { let s = setting_of suite key.now nonce.now aad.now in HasKeys self.new s × HoldsNumbers state.new s [] }
+        ensures { HasBegun self.new state.new (setting_of suite key.now nonce.now aad.now) }
     {
         let cipher = expanded(key);
         self.begin_gcm(
@@ -175,7 +180,7 @@ impl KeyAndNonce {
             → length s.key ≡ key_length suite → key.now ≡ encryption_key s.key s.nonce
             → Serves Reversed (authentication_key s.key s.nonce) hash_key.now
             → s.nonce ≡ nonce.now → s.aad ≡ aad.now → length aad.now ≤ aad_limit suite
-            → HasKeys self.new s × HoldsNumbers state.new s [] }
+            → HasBegun self.new state.new s }
     {
         *self = KeyAndNonce::of(key, nonce);
         *state = siv_pass::initial_state_by_key(key, hash_key, nonce, aad);
@@ -195,8 +200,7 @@ impl KeyAndNonce {
         requires long { length cipher.now ≡ key_length suite }
         requires fits { length aad.now ≤ aad_limit suite }
         ensures is_key { IsKey (encryption_key cipher.now nonce.now) }
-        ensures holds { let s = setting_of suite cipher.now nonce.now aad.now in
-            HasKeys self.new s × HoldsNumbers state.new s [] }
+        ensures holds { HasBegun self.new state.new (setting_of suite cipher.now nonce.now aad.now) }
     {
         let parts = KeyParts::new(cipher, nonce);
         let hash_key = hash_key(&parts);
@@ -225,14 +229,21 @@ impl KeyAndNonce {
         requires by { construction_of suite ≡ ByGcmSiv }
         requires long { length key.now ≡ key_length suite }
         requires fits { length aad.now ≤ aad_limit suite }
-        ensures { let s = setting_of suite key.now nonce.now aad.now in HasKeys self.new s × HoldsNumbers state.new s [] }
+        ensures { HasBegun self.new state.new (setting_of suite key.now nonce.now aad.now) }
     {
         self.begin_siv(state, suite, &expanded(key), nonce, aad);
     }
 
-    // Begins a pass from the bytes of a key and a nonce. Faults: `KeyLength`, `NonceLength`, then `AadTooLong`. On error neither
-    // the keys nor the state change.
-    pub(crate) fn begin(
+    /// Begins a message under a suite, the bytes of a key and of a nonce, and associated data: `state` becomes the initial state of a
+    /// pass, of which [`crate::TwoPassState::first_reading`] and [`crate::TwoPassState::first_pass`] make those of two. What the keys
+    /// and the state were before makes no difference. `KeyLength` if the key does not have the suite's length, then `NonceLength` if
+    /// the nonce is not 12 bytes long, then `AadTooLong` if the data is longer than the suite's limit: the keys and the state do not
+    /// change then.
+    ///
+    /// A nonce must never be used twice under one key to seal. Under ChaCha20-Poly1305 and AES-GCM a repeat gives away the XOR of the
+    /// two texts, and enough to forge messages; under AES-GCM-SIV it gives away only whether the texts and the associated data were
+    /// the same.
+    pub fn begin(
         &mut self,
         state: &mut PassState,
         suite: Suite,
@@ -241,8 +252,9 @@ impl KeyAndNonce {
         aad: &[u8],
     ) -> Result<(), Fault>
         ensures answer { let s = setting_of suite key.now nonce.now aad.now in
-            MatchResult result (λ _. HasKeys self.new s × HoldsNumbers state.new s []) (BeginRefused s) }
+            MatchResult result (λ _. HasBegun self.new state.new s) (BeginRefused s) }
         ensures kept { OnErr result ((self.new ≡ self.old) × (state.new ≡ state.old)) }
+        ensures bytes { IfOk result (λ _. MasksByBytes (setting_of suite key.now nonce.now aad.now)) }
     {
         if key.len() != suite.key_length() {
             return Err(Fault::KeyLength);
@@ -266,8 +278,8 @@ impl KeyAndNonce {
         }
     }
 
-    // Begins a pass under AES-GCM-SIV as `begin` does, with the key schedule.
-    pub(crate) fn begin_siv_by(
+    /// Begins a message under a suite of AES-GCM-SIV as [`KeyAndNonce::begin`] does, with the schedule of the key.
+    pub fn begin_siv_by(
         &mut self,
         state: &mut PassState,
         suite: Suite,
@@ -278,8 +290,9 @@ impl KeyAndNonce {
         requires by { construction_of suite ≡ ByGcmSiv }
         requires long { length cipher.now ≡ key_length suite }
         ensures answer { let s = setting_of suite cipher.now nonce.now aad.now in
-            MatchResult result (λ _. HasKeys self.new s × HoldsNumbers state.new s []) (BeginRefused s) }
+            MatchResult result (λ _. HasBegun self.new state.new s) (BeginRefused s) }
         ensures kept { OnErr result ((self.new ≡ self.old) × (state.new ≡ state.old)) }
+        ensures bytes { IfOk result (λ _. MasksByBytes (setting_of suite cipher.now nonce.now aad.now)) }
     {
         let nonce = Nonce::from_slice(nonce)?;
         suite.check_aad(aad)?;
@@ -287,9 +300,9 @@ impl KeyAndNonce {
         Ok(())
     }
 
-    // Begins a pass as `begin` does, with the key schedule, and under AES-GCM with the key of GHASH: under AES-GCM-SIV the block
-    // makes no difference.
-    pub(crate) fn begin_by(
+    /// Begins a message as [`KeyAndNonce::begin`] does, with the schedule of the key, and under AES-GCM with the key of GHASH, which is
+    /// the cipher of a block of zeros: under other suites the block makes no difference.
+    pub fn begin_by(
         &mut self,
         state: &mut PassState,
         suite: Suite,
@@ -303,8 +316,9 @@ impl KeyAndNonce {
         requires cipher { cipher.now ≡ key.now }
         requires ghash_key { construction_of suite ≡ ByGcm → ghash_key.now ≡ hash_key key.now }
         ensures answer { let s = setting_of suite key.now nonce.now aad.now in
-            MatchResult result (λ _. HasKeys self.new s × HoldsNumbers state.new s []) (BeginRefused s) }
+            MatchResult result (λ _. HasBegun self.new state.new s) (BeginRefused s) }
         ensures kept { OnErr result ((self.new ≡ self.old) × (state.new ≡ state.old)) }
+        ensures bytes { IfOk result (λ _. MasksByBytes (setting_of suite key.now nonce.now aad.now)) }
     {
         let nonce = Nonce::from_slice(nonce)?;
         suite.check_aad(aad)?;
@@ -327,9 +341,12 @@ impl KeyAndNonce {
 
     // ---- resumption
 
-    // Returns the key and the nonce of a message, to go on from a saved state. Faults: `KeyLength`, `NonceLength`, then
-    // `TagMismatch` if the state belongs to another key or nonce.
-    pub(crate) fn resumed(
+    /// Returns the key and the nonce of a message, to go on from a saved `state` of it. `KeyLength` if the key does not have the
+    /// suite's length, then `NonceLength` if the nonce is not 12 bytes long, then `TagMismatch` if the state belongs to another key
+    /// or nonce.
+    ///
+    /// The saved state of a sealing must be resumed only once: otherwise two texts that begin alike are sealed under one nonce.
+    pub fn resumed(
         suite: Suite,
         key: &[u8],
         nonce: &[u8],
@@ -339,6 +356,7 @@ impl KeyAndNonce {
             (λ p. (aad : List ℕ) → HasKeys p (setting_of suite key.now nonce.now aad))
             (ResumeRefused state.now suite key.now nonce.now) }
         ensures key { IfOk result (λ _. HasHashKey state.now (setting_of suite key.now nonce.now)) }
+        ensures bytes { IfOk result (λ _. (aad : List ℕ) → MasksByBytes (setting_of suite key.now nonce.now aad)) }
     {
         let mut keys = KeyAndNonce::zeros();
         let mut fresh = PassState::zeros();

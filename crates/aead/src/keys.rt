@@ -57,9 +57,9 @@ pub(crate) enum CipherKeys<'a> {
     Siv(AesKeys<'a>),
 }
 
-// The key of a message and its nonce.
+/// The keys of a message and its nonce, lent for a step of its state by [`crate::KeyAndNonce::keys`].
 #[derive(Drop, Clone, Copy)]
-pub(crate) struct MessageKeys<'a> {
+pub struct MessageKeys<'a> {
     pub(crate) cipher: CipherKeys<'a>,
     pub(crate) nonce: [u8; 12],
 }

@@ -10,6 +10,8 @@
 //! A nonce must never be used twice under one key: [`seal`] says what a repeat gives away. A message is sealed or opened
 //! in place by [`Aead`], sealed in pieces by [`Sealer`] or by [`SivAbsorb`] and [`SivWriter`], opened in pieces by [`Opener`]
 //! and [`OpenWriter`], and sealed or opened over streams by [`seal_stream`], [`seal_siv_stream`] and [`open_stream`].
+//! A caller that stores a message in pieces in its own memory keeps a [`KeyAndNonce`] beside a [`PassState`] or a
+//! [`TwoPassState`], and makes the steps of the state under the keys that it lends.
 #![tactic(auto)]
 
 ghost use Rattle.aead.specs.Pieces.{PiecesMakeASealing, MaskedPiecesMakeASealing, MaskedPiecesJoin};
@@ -30,9 +32,6 @@ mod gcm_pass;
 mod gcm_siv;
 mod hashes;
 mod key_and_nonce;
-mod keyed_opener;
-mod keyed_sealer;
-mod keyed_siv;
 mod keys;
 mod mask;
 mod masking;
@@ -57,9 +56,8 @@ pub use cuts::seal_cut;
 pub use engine::{open_stream, seal_siv_stream, seal_stream};
 pub use gcm::{BorrowedGcm, Gcm, hash_subkey};
 pub use gcm_siv::GcmSiv;
-pub use keyed_opener::KeyedOpener;
-pub use keyed_sealer::KeyedSealer;
-pub use keyed_siv::KeyedSiv;
+pub use key_and_nonce::KeyAndNonce;
+pub use keys::MessageKeys;
 pub use opener::{OpenWriter, Opener};
 pub use pass_state::PassState;
 pub use sealer::Sealer;

@@ -7,7 +7,7 @@ ghost use Rattle.aead.specs.Suites.{text_limit, aad_limit};
 ghost use Rattle.aead.specs.Sealing.{Setting, IsNoSealing, mask_of};
 ghost use Rattle.aead.specs.Ciphers.{setting};
 ghost use Rattle.aead.specs.AnyCiphers.{keyed_of};
-ghost use Rattle.aead.specs.Refusals.{SealRefused};
+ghost use Rattle.aead.specs.Refusals.{FitsIn, SealRefused};
 ghost use Rattle.aead.specs.PassStates.{HasHashKey, HoldsNone, HoldsNumbers};
 ghost use Rattle.aead.specs.Code.MessageKeys.{construction_by, AreKeysOf};
 ghost use Rattle.aead.specs.Pieces.{Opens, WasOverASealing, IsInFirstPass, IsInSecondPass, MasksByBytes, OpensUnder};
@@ -117,7 +117,7 @@ impl<'a> Opener<'a> {
     {
         cipher.suite().check_aad(aad)?;
         let (keys, pass) = keys_and_state(cipher, nonce, aad);
-        let state = TwoPassState::first(pass, tag.bytes());
+        let state = TwoPassState::first_pass(pass, tag.bytes());
         Ok(Opener { keys, state })
     }
 
@@ -195,7 +195,6 @@ pub struct OpenWriter<'a> {
 
 impl<'a> OpenWriter<'a> {
     ghost use Rattle.aead.specs.Pieces.{HoldsOpenWriter, open_writer_count, open_writer_limit};
-    ghost use Rattle.aead.specs.KeyedPieces.{FitsIn};
 
     /// Goes on from a saved `state`, which [`OpenWriter::state`] returned under the same cipher and nonce. `TagMismatch` if the
     /// state belongs to another key or nonce.

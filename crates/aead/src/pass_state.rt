@@ -6,8 +6,8 @@ ghost use Rattle.std.specs.Prelude.{MatchResult, OnErr};
 ghost use Rattle.octets.specs.Bytes.{IsBlock, pad16};
 ghost use Rattle.octets.specs.Masked.{masked};
 ghost use Rattle.aead.specs.Suites.{construction_of, is_one_pass, text_limit, text_limit_by, aad_limit};
-ghost use Rattle.aead.specs.Sealing.{Setting, mask_of, tag_over};
-ghost use Rattle.aead.specs.Refusals.{SealRefused};
+ghost use Rattle.aead.specs.Sealing.{Setting, mask_of, tag_of, tag_over};
+ghost use Rattle.aead.specs.Refusals.{FitsIn, SealRefused};
 ghost use Rattle.aead.specs.Code.States.{HoldsAuthenticator};
 
 use crate::authenticator::Authenticator;
@@ -77,7 +77,6 @@ impl Sum {
 impl PassState {
     ghost use Rattle.aead.specs.PassStates.{zero_state, IsHashKey, IsStart, HoldsNumbers, HoldsState};
     ghost use Rattle.aead.specs.KeyedPasses.{KnowsCipherOf};
-    ghost use Rattle.aead.specs.KeyedPieces.{FitsIn};
     ghost use Rattle.aead.specs.Code.Masks.{hashed_by};
     ghost use Rattle.aead.specs.Code.MessageKeys.{construction_by, AreKeysOf};
     ghost use Rattle.aead.specs.Code.PassSteps.{MasksPiece, TakesPiece, TakesPieceText};
@@ -291,10 +290,11 @@ impl PassState {
 
     // ---- a text that is sealed in one reading
 
-    // Adds a piece to the text, and replaces it with its ciphertext. `TextTooLong` if the text would be longer than the suite's limit:
-    // nothing changes then. `known` is the block of AES that the text ends inside, if it is known.
+    /// Adds a piece, of any length, to a text that is sealed in one reading, and replaces it with its ciphertext. `known` is the block
+    /// of AES that the text ends inside, if it is known. `TextTooLong` if the text would be longer than the suite's limit: the state,
+    /// the piece and `known` do not change then.
     #[inline(always)]
-    pub(crate) fn seal(
+    pub fn seal(
         &mut self,
         keys: &MessageKeys,
         known: &mut KnownBlock,
@@ -316,5 +316,14 @@ impl PassState {
         }
         keys.mask(self, known, Order::MaskFirst, &[0; 16], piece);
         Ok(())
+    }
+
+    /// Returns the tag of a text that is sealed in one reading, 16 bytes.
+    #[inline(always)]
+    pub fn tag_of_text(&self, keys: &MessageKeys) -> Tag
+        ensures { (s : Setting) (text : List ℕ) → AreKeysOf keys.now s → is_one_pass (construction_of s.suite) ≡ true
+            → HoldsState self.now s text → result ≡ tag_of s text }
+    {
+        keys.tag(self)
     }
 }

@@ -97,6 +97,6 @@ impl<'a> Sealer<'a> {
         ensures { (s : Setting) (text : List ℕ) → HoldsSealer self.entry s text → result ≡ tag_of s text }
     {
         let (keys, state) = (self.keys, self.state);
-        keys.tag(&state)
+        state.tag_of_text(&keys)
     }
 }

@@ -6,7 +6,7 @@ ghost use Rattle.octets.specs.Masked.{masked};
 ghost use Rattle.aead.specs.Suites.{text_limit};
 ghost use Rattle.aead.specs.Sealing.{Setting, mask_of, tag_of};
 ghost use Rattle.aead.specs.Ciphers.{setting};
-ghost use Rattle.aead.specs.Refusals.{SealRefused};
+ghost use Rattle.aead.specs.Refusals.{FitsIn, SealRefused};
 ghost use Rattle.aead.specs.PassStates.{HasHashKey, HoldsNone};
 
 use crate::aead::Aead;
@@ -37,7 +37,7 @@ impl SivAbsorb {
     {
         cipher.suite().check_aad(aad)?;
         let keys = SivKeys::new(cipher, nonce);
-        let state = TwoPassState::first(keys.initial_state(aad), &[0; 16]);
+        let state = TwoPassState::first_reading(keys.initial_state(aad));
         Ok(SivAbsorb { keys, state })
     }
 
@@ -107,7 +107,6 @@ pub struct SivWriter {
 
 impl SivWriter {
     ghost use Rattle.aead.specs.Pieces.{HoldsWriter, IsInSecondReading, Repeats, siv_writer_count, siv_writer_limit};
-    ghost use Rattle.aead.specs.KeyedPieces.{FitsIn};
 
     /// Goes on from a saved `state`, which [`SivWriter::state`] returned under the same cipher and nonce. `TagMismatch` if the
     /// state belongs to another key or nonce.

@@ -1,12 +1,12 @@
 //! The state of a sealing in two readings or of an opening in two passes, as plain numbers, which a caller can save. The steps are
-//! the same whether a cipher lends the keys or the caller has them as bytes.
+//! the same whether a cipher lends the keys or a [`crate::KeyAndNonce`].
 
 ghost use Rattle.std.specs.Prelude.{◌≡◌, ◌+◌, ◌<◌, ◌≤◌, ◌++◌, ℕ, List, [], length, min, true, false};
 ghost use Rattle.std.specs.Prelude.{MatchResult, OnErr};
 ghost use Rattle.octets.specs.Masked.{masked};
 ghost use Rattle.aead.specs.Suites.{ByGcmSiv, construction_of, text_limit, text_limit_by};
 ghost use Rattle.aead.specs.Sealing.{Setting, IsNoSealing, mask_of, tag_of};
-ghost use Rattle.aead.specs.Refusals.{SealRefused};
+ghost use Rattle.aead.specs.Refusals.{FitsIn, SealRefused};
 ghost use Rattle.aead.specs.PassStates.{HoldsNumbers, IsStart};
 
 use crate::beside::Order;
@@ -22,8 +22,8 @@ use octets::{Fault, Tag, same};
 #[repr(C)]
 #[derive(Clone, Copy)]
 pub struct TwoPassState {
-    // The state of the reading or the pass.
-    pub(crate) pass: PassState,
+    /// The state of the reading or the pass, which [`crate::KeyAndNonce::resumed`] compares with a key and a nonce.
+    pub pass: PassState,
     // The sum of the hash over the padded associated data, where both readings or passes begin.
     pub(crate) start: Sum,
     // The tag of the first text, in the second reading; or the tag of the sealing, in both passes.
@@ -34,13 +34,12 @@ pub struct TwoPassState {
 
 impl TwoPassState {
     ghost use Rattle.aead.specs.KeyedPasses.{KnowsCipherOf};
-    ghost use Rattle.aead.specs.KeyedPieces.{zero_passes, FitsIn};
     ghost use Rattle.aead.specs.Code.MessageKeys.{construction_by, AreKeysOf};
-    ghost use Rattle.aead.specs.Pieces.{IsInFirstReading, IsInSecondReading, Repeats};
+    ghost use Rattle.aead.specs.Pieces.{zero_passes, IsInFirstReading, IsInSecondReading, Repeats};
     ghost use Rattle.aead.specs.Pieces.{IsInPass, IsInFirstPass, IsInSecondPass, Opens, WasOverASealing, MasksByBytes};
 
-    // All zeros.
-    pub(crate) fn zeros() -> TwoPassState
+    /// All zeros.
+    pub fn zeros() -> TwoPassState
         ensures { result ≡ zero_passes }
     {
         TwoPassState {
@@ -52,7 +51,7 @@ impl TwoPassState {
     }
 
     // The state of a first reading or pass that begins in this initial state.
-    pub(crate) fn first(pass: PassState, tag: &[u8; 16]) -> TwoPassState
+    fn first(pass: PassState, tag: &[u8; 16]) -> TwoPassState
         ensures pass { result.pass ≡ pass }
         ensures start { (s : Setting) → HoldsNumbers pass s [] → IsStart result.start s }
         ensures tag { result.tag ≡ tag.now }
@@ -64,6 +63,22 @@ impl TwoPassState {
             tag: *tag,
             first: 0,
         }
+    }
+
+    /// The state of the first reading of a sealing that begins in this initial state, with the empty text.
+    #[inline(always)]
+    pub fn first_reading(pass: PassState) -> TwoPassState
+        ensures { (s : Setting) → HoldsNumbers pass s [] → IsInFirstReading result s [] }
+    {
+        TwoPassState::first(pass, &[0; 16])
+    }
+
+    /// The state of the first pass of an opening that begins in this initial state, with no ciphertext, under the tag of the sealing.
+    #[inline(always)]
+    pub fn first_pass(pass: PassState, tag: &[u8; 16]) -> TwoPassState
+        ensures { (s : Setting) → HoldsNumbers pass s [] → IsInFirstPass result s tag.now [] }
+    {
+        TwoPassState::first(pass, tag)
     }
 
     // The state at the start of the second reading or pass, after a first one with this tag.
@@ -84,10 +99,10 @@ impl TwoPassState {
 
     // ---- a sealing in two readings
 
-    // Adds a piece to the text in the first reading. `TextTooLong` if the text would be longer than the suite's limit: the state
-    // does not change then.
+    /// Adds a piece, of any length, to the text in the first reading. `TextTooLong` if the text would be longer than the suite's
+    /// limit: the state does not change then.
     #[inline(always)]
-    pub(crate) fn absorb(&mut self, keys: &MessageKeys, piece: &[u8]) -> Result<(), Fault>
+    pub fn absorb(&mut self, keys: &MessageKeys, piece: &[u8]) -> Result<(), Fault>
         ensures answer { (s : Setting) (text : List ℕ) → AreKeysOf keys.now s → IsInFirstReading self.old s text
             → MatchResult result (λ _. IsInFirstReading self.new s (text ++ piece.now)
             × (length (text ++ piece.now) ≤ text_limit s.suite)) (λ e. SealRefused s (text ++ piece.now) e) }
@@ -110,8 +125,8 @@ impl TwoPassState {
         keys.tag(&self.pass)
     }
 
-    // Ends the first reading, and returns the tag of its text. The second reading begins.
-    pub(crate) fn begin_second_reading(&mut self, keys: &MessageKeys) -> Tag
+    /// Ends the first reading, and returns the tag of its text, 16 bytes. The second reading begins.
+    pub fn begin_second_reading(&mut self, keys: &MessageKeys) -> Tag
         ensures { (s : Setting) (text : List ℕ) → construction_of s.suite ≡ ByGcmSiv → AreKeysOf keys.now s
             → IsInFirstReading self.old s text
             → (result ≡ tag_of s text) × IsInSecondReading self.new s text [] }
@@ -121,10 +136,11 @@ impl TwoPassState {
         tag
     }
 
-    // Adds a piece to the text in the second reading, and replaces it with its ciphertext. `SourceChanged` if that text would be longer
-    // than the first: nothing changes then. `known` is the block of AES that the text ends inside, if it is known.
+    /// Adds a piece, of any length, to the text in the second reading, and replaces it with its ciphertext. `known` is the block of
+    /// AES that the text ends inside, if it is known. `SourceChanged` if that text would be longer than the first: the state, the
+    /// piece and `known` do not change then.
     #[inline(always)]
-    pub(crate) fn write(
+    pub fn write(
         &mut self,
         keys: &MessageKeys,
         known: &mut KnownBlock,
@@ -149,8 +165,9 @@ impl TwoPassState {
         Ok(())
     }
 
-    // Returns `Ok` if the second text has the length and the tag of the first, else `SourceChanged`.
-    pub(crate) fn end_reading(&self, keys: &MessageKeys) -> Result<(), Fault>
+    /// Returns `Ok` if the second text has the length and the tag of the first, else `SourceChanged`: the ciphertext that
+    /// [`TwoPassState::write`] wrote must then be thrown away.
+    pub fn end_reading(&self, keys: &MessageKeys) -> Result<(), Fault>
         ensures answer { (s : Setting) (first text : List ℕ) → construction_of s.suite ≡ ByGcmSiv
             → AreKeysOf keys.now s → IsInSecondReading self.now s first text
             → MatchResult result (λ _. Repeats s first text)
@@ -167,10 +184,10 @@ impl TwoPassState {
 
     // ---- an opening in two passes
 
-    // Authenticates a piece of the ciphertext in the first pass. `TextTooLong` if the ciphertext would be longer than the suite's
-    // limit: the state does not change then.
+    /// Authenticates a piece of the ciphertext, of any length, in the first pass. `TextTooLong` if the ciphertext would be longer than
+    /// the suite's limit: the state does not change then.
     #[inline(always)]
-    pub(crate) fn check(&mut self, keys: &MessageKeys, piece: &[u8]) -> Result<(), Fault>
+    pub fn check(&mut self, keys: &MessageKeys, piece: &[u8]) -> Result<(), Fault>
         ensures answer { (s : Setting) (tag body : List ℕ) → AreKeysOf keys.now s → IsInFirstPass self.old s tag body
             → MatchResult result (λ _. IsInFirstPass self.new s tag (body ++ piece.now)
             × (length (body ++ piece.now) ≤ text_limit s.suite)) (λ e. SealRefused s (body ++ piece.now) e) }
@@ -196,9 +213,9 @@ impl TwoPassState {
         same(keys.tag(&self.pass).bytes(), &self.tag)
     }
 
-    // Ends the first pass. `Ok` if it was over a valid sealing: the second pass begins. `TagMismatch` if authentication failed: the
-    // state does not change then.
-    pub(crate) fn begin_second_pass(&mut self, keys: &MessageKeys) -> Result<(), Fault>
+    /// Ends the first pass. `Ok` if it was over a valid sealing: the second pass begins. `TagMismatch` if authentication failed: the
+    /// state does not change then, and must not be used any more.
+    pub fn begin_second_pass(&mut self, keys: &MessageKeys) -> Result<(), Fault>
         ensures answer { (s : Setting) (tag body : List ℕ) → AreKeysOf keys.now s → MasksByBytes s
             → IsInFirstPass self.old s tag body
             → MatchResult result (λ _. IsInSecondPass self.new s tag (length body) [] × Opens s tag body)
@@ -213,10 +230,11 @@ impl TwoPassState {
         Ok(())
     }
 
-    // Replaces a piece of the ciphertext with its text in the second pass, and authenticates it. `SourceChanged` if the second pass
-    // would be longer than the first: nothing changes then. `known` is the block of AES that the pass ends inside, if it is known.
+    /// Replaces a piece of the ciphertext, of any length, with its text in the second pass, and authenticates it. `known` is the block
+    /// of AES that the ciphertext ends inside, if it is known. `SourceChanged` if the second pass would be longer than the first: the
+    /// state, the piece and `known` do not change then.
     #[inline(always)]
-    pub(crate) fn open(
+    pub fn open(
         &mut self,
         keys: &MessageKeys,
         known: &mut KnownBlock,
@@ -241,8 +259,9 @@ impl TwoPassState {
         Ok(())
     }
 
-    // Returns `Ok` if the second pass was over the ciphertext of the sealing, else `SourceChanged`.
-    pub(crate) fn end_pass(&self, keys: &MessageKeys) -> Result<(), Fault>
+    /// Returns `Ok` if the second pass was over the ciphertext of the sealing, else `SourceChanged`: the text that
+    /// [`TwoPassState::open`] wrote must then be thrown away.
+    pub fn end_pass(&self, keys: &MessageKeys) -> Result<(), Fault>
         ensures answer { (s : Setting) (tag : List ℕ) (first : ℕ) (body : List ℕ) → AreKeysOf keys.now s
             → MasksByBytes s → IsInSecondPass self.now s tag first body → MatchResult result (λ _. Opens s tag body)
             (λ e. (e ≡ Fault.SourceChanged) × IsNoSealing s (body ++ tag)) }

@@ -6,8 +6,8 @@ use Rattle.octets.specs.declared.fault.Fault.TheVariants.{TagMismatch, SourceCha
 use Rattle.aead.specs.declared.suite.Suite.{Suite}
 use Rattle.aead.specs.Sealing.{Setting, IsNoSealing, mask_of}
 use Rattle.aead.specs.Refusals.{SealRefused}
-use Rattle.aead.specs.Pieces.{Opens, WasOverASealing}
-use Rattle.aead.specs.KeyedPieces.{HoldsFirstPass, HoldsSecondPass, zero_opener}
+use Rattle.aead.specs.Pieces.{IsInFirstPass, IsInSecondPass, MasksByBytes, Opens, WasOverASealing, zero_passes}
+use Rattle.aead.specs.KeyedPasses.{HasKeys, zero_keys}
 use Rattle.capi.specs.declared.opener.StoredOpener.{StoredOpener}
 use Rattle.aead.specs.Suites.{suite_number}
 
@@ -26,19 +26,24 @@ NotIn kind p = (suite : Suite) → p.mark ≢ kind + suite_number suite
 
 -- the struct of zeros
 abbrev pub zeros : StoredOpener
-zeros = record { mark = 0; opener = zero_opener }
+zeros = record { mark = 0; keys = zero_keys; state = zero_passes }
 
--- p is in the first pass of opening a ciphertext under this tag, and has taken in these bytes of the ciphertext
+-- p has the keys of a message and is in the first pass of opening a ciphertext under this tag, and has taken in these bytes of the
+-- ciphertext
 pub record HoldsChecking (p : StoredOpener) (s : Setting) (tag bytes : List ℕ) : Type 0 where
   pub mark_is : p.mark ≡ checking + suite_number s.suite
-  pub opener : HoldsFirstPass p.opener s tag bytes
+  pub keys : HasKeys p.keys s
+  pub masks : MasksByBytes s
+  pub state : IsInFirstPass p.state s tag bytes
 
--- p is in the second pass, and has taken in these bytes of the ciphertext. The first pass was over a valid sealing, with this
--- many bytes of ciphertext
+-- p has the keys of a message and is in the second pass, and has taken in these bytes of the ciphertext. The first pass was over a
+-- valid sealing, with this many bytes of ciphertext
 pub record HoldsOpening (p : StoredOpener) (s : Setting) (tag : List ℕ) (first : ℕ) (bytes : List ℕ) : Type 0
   where
     pub mark_is : p.mark ≡ opening + suite_number s.suite
-    pub opener : HoldsSecondPass p.opener s tag first bytes
+    pub keys : HasKeys p.keys s
+    pub masks : MasksByBytes s
+    pub state : IsInSecondPass p.state s tag first bytes
 
 -- ---- the outcomes of the calls
 

@@ -6,7 +6,8 @@ use Rattle.aead.specs.declared.suite.Suite.{Suite}
 use Rattle.aead.specs.Suites.{construction_of, is_one_pass, suite_number}
 use Rattle.aead.specs.Sealing.{Setting, mask_of}
 use Rattle.aead.specs.Refusals.{SealRefused}
-use Rattle.aead.specs.KeyedPieces.{HoldsKeyedText, zero_sealer}
+use Rattle.aead.specs.PassStates.{HoldsState, zero_state}
+use Rattle.aead.specs.KeyedPasses.{HasKeys, zero_keys}
 use Rattle.capi.specs.declared.sealer.StoredSealer.{StoredSealer}
 
 -- the mark of a sealing in pieces: `sealer` in ASCII, the version of the layout, and the suite's number
@@ -19,12 +20,14 @@ NotBegun p = (suite : Suite) → is_one_pass (construction_of suite) ≡ true �
 
 -- the struct of zeros
 abbrev pub zeros : StoredSealer
-zeros = record { mark = 0; sealer = zero_sealer }
+zeros = record { mark = 0; keys = zero_keys; state = zero_state }
 
--- p holds this text
+-- p has the keys of a message in one reading, and has taken in this text
 pub record HoldsText (p : StoredSealer) (s : Setting) (text : List ℕ) : Type 0 where
   pub mark_is : p.mark ≡ sealer_mark s.suite
-  pub sealer : HoldsKeyedText p.sealer s text
+  pub one_pass : is_one_pass (construction_of s.suite) ≡ true
+  pub keys : HasKeys p.keys s
+  pub state : HoldsState p.state s text
 
 -- p becomes q, and the bytes `was` become `now`: if p holds the text, either a piece is added and masked, or the text would be
 -- too long

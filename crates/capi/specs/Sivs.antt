@@ -8,8 +8,8 @@ use Rattle.aead.specs.declared.suite.Construction.TheVariants.{GcmSiv as ByGcmSi
 use Rattle.aead.specs.Suites.{construction_of, suite_number}
 use Rattle.aead.specs.Sealing.{Setting, mask_of, tag_of}
 use Rattle.aead.specs.Refusals.{SealRefused}
-use Rattle.aead.specs.Pieces.{Repeats}
-use Rattle.aead.specs.KeyedPieces.{HoldsFirstReading, HoldsSecondReading, zero_siv}
+use Rattle.aead.specs.Pieces.{IsInFirstReading, IsInSecondReading, Repeats, zero_passes}
+use Rattle.aead.specs.KeyedPasses.{HasKeys, zero_keys}
 use Rattle.capi.specs.declared.siv.StoredSiv.{StoredSiv}
 
 -- the kind of struct in the first reading, to which its mark adds the suite's number: `sivone` in ASCII, and the
@@ -27,17 +27,22 @@ NotIn kind p = (suite : Suite) → construction_of suite ≡ ByGcmSiv → p.mark
 
 -- the struct of zeros
 abbrev pub zeros : StoredSiv
-zeros = record { mark = 0; siv = zero_siv }
+zeros = record { mark = 0; keys = zero_keys; state = zero_passes }
 
--- p is in the first reading, and has taken in this text
+-- p has the keys of a message of AES-GCM-SIV and is in the first reading, and has taken in this text
 pub record HoldsAbsorbing (p : StoredSiv) (s : Setting) (text : List ℕ) : Type 0 where
   pub mark_is : p.mark ≡ absorbing + suite_number s.suite
-  pub siv : HoldsFirstReading p.siv s text
+  pub by_gcm_siv : construction_of s.suite ≡ ByGcmSiv
+  pub keys : HasKeys p.keys s
+  pub state : IsInFirstReading p.state s text
 
--- p is in the second reading, and has taken in this text; the text `first` of the first reading is not shorter
+-- p has the keys of a message of AES-GCM-SIV and is in the second reading, and has taken in this text; the text `first` of the
+-- first reading is not shorter
 pub record HoldsWriting (p : StoredSiv) (s : Setting) (first text : List ℕ) : Type 0 where
   pub mark_is : p.mark ≡ writing + suite_number s.suite
-  pub siv : HoldsSecondReading p.siv s first text
+  pub by_gcm_siv : construction_of s.suite ≡ ByGcmSiv
+  pub keys : HasKeys p.keys s
+  pub state : IsInSecondReading p.state s first text
 
 -- ---- the outcomes of the calls
 

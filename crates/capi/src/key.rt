@@ -1,12 +1,12 @@
 //! The calls for C on a key that is kept between messages. The values that depend on the key alone are computed once.
 
-ghost use Rattle.std.specs.Prelude.{◌≡◌, ◌≢◌, ◌≤◌, ℕ, List, [], length, true, false, MatchResult, OnErr};
+ghost use Rattle.std.specs.Prelude.{◌≡◌, ◌≢◌, ◌≤◌, ℕ, List, [], length, true, false, MatchResult, IfOk, OnErr};
 ghost use Rattle.octets.specs.Numbers.{HasOutcome};
 ghost use Rattle.aead.specs.declared.suite.Suite.{Suite};
 ghost use Rattle.aead.specs.declared.suite.Construction.TheVariants.{GcmSiv as ByGcmSiv};
 ghost use Rattle.aead.specs.Suites.{construction_of, is_one_pass, aad_limit, text_limit, suite_number};
-ghost use Rattle.aead.specs.KeyedPasses.{setting_of, HasLengths, BeginRefused};
-ghost use Rattle.aead.specs.KeyedPieces.{HoldsKeyedText, HoldsFirstReading, HoldsFirstPass};
+ghost use Rattle.aead.specs.Pieces.{MasksByBytes};
+ghost use Rattle.aead.specs.KeyedPasses.{setting_of, HasBegun, HasLengths, BeginRefused};
 ghost use Rattle.capi.specs.Suites.{unknown_suite, not_begun};
 ghost use Rattle.capi.specs.Whole.{WasSealed, WasNotSealed, WasOpened, WasNotOpened, SealsTo, OpensTo};
 ghost use Rattle.capi.specs.Keys.{key_mark, first_key, KeyRefused};
@@ -21,10 +21,8 @@ use crate::siv::StoredSiv;
 use crate::stored_key::{KEY, KeyNumbers, StoredKey};
 use crate::suites::{NOT_BEGUN, UNKNOWN_SUITE, is_siv, marked, suite_numbered};
 use crate::whole::{Direction, Keys, Opening, Sealing, open_to, run_in_place, seal_to};
-use aead::{
-    BorrowedGcm, ChaChaPoly, Construction, GcmSiv, KeyedOpener, KeyedSealer, KeyedSiv, Suite,
-};
-use octets::{Block, Fault, Key32, Nonce, outcome_number};
+use aead::{BorrowedGcm, ChaChaPoly, Construction, GcmSiv, KeyAndNonce, PassState, Suite};
+use octets::{Fault, Key32, Nonce, outcome_number};
 
 // Seals or opens under a kept key with a nonce, once all lengths are known to fit.
 fn run_by_kept<D: Direction>(
@@ -94,73 +92,31 @@ impl<'a> Keys for ByKept<'a> {
     }
 }
 
-// Begins a sealing in pieces, which holds the empty text, under a kept key and the bytes of a nonce.
-fn begin_sealer(
-    sealer: &mut KeyedSealer,
+// Begins a message under a kept key and the bytes of a nonce: `state` becomes the initial state of a pass.
+fn begin_by_kept(
+    keys: &mut KeyAndNonce,
+    state: &mut PassState,
     kept: &StoredKey,
     suite: Suite,
     nonce: &[u8],
     aad: &[u8],
-) -> Result<(), Fault>
-    requires marked { kept.now.numbers.mark ≡ key_mark suite }
-    requires one_pass { is_one_pass (construction_of suite) ≡ true }
-    ensures answer { let s = setting_of suite (first_key suite kept.now.numbers.key) nonce.now aad.now in
-        MatchResult result (λ _. HoldsKeyedText sealer.new s []) (BeginRefused s) }
-    ensures kept { OnErr result (sealer.new ≡ sealer.old) }
-{
-    let key = &kept.numbers.key[..suite.key_length()];
-    match suite.construction() {
-        Construction::Gcm => {
-            let (cipher, ghash_key) = (kept.aes(suite), kept.ghash_key(suite));
-            sealer.begin_by(suite, key, &cipher, &ghash_key, nonce, aad)
-        }
-        _ => sealer.begin(suite, key, nonce, aad),
-    }
-}
-
-// Begins the first pass of an opening, under a kept key, the bytes of a nonce, and a tag.
-fn begin_opener(
-    opener: &mut KeyedOpener,
-    kept: &StoredKey,
-    suite: Suite,
-    nonce: &[u8],
-    aad: &[u8],
-    tag: &[u8; 16],
 ) -> Result<(), Fault>
     requires { kept.now.numbers.mark ≡ key_mark suite }
     ensures answer { let s = setting_of suite (first_key suite kept.now.numbers.key) nonce.now aad.now in
-        MatchResult result (λ _. HoldsFirstPass opener.new s tag.now []) (BeginRefused s) }
-    ensures kept { OnErr result (opener.new ≡ opener.old) }
+        MatchResult result (λ _. HasBegun keys.new state.new s) (BeginRefused s) }
+    ensures kept { OnErr result ((keys.new ≡ keys.old) × (state.new ≡ state.old)) }
+    ensures bytes { let s = setting_of suite (first_key suite kept.now.numbers.key) nonce.now aad.now in
+        IfOk result (λ _. MasksByBytes s) }
 {
     let key = &kept.numbers.key[..suite.key_length()];
     match suite.construction() {
-        Construction::ChaChaPoly => opener.begin(suite, key, nonce, aad, tag),
+        Construction::ChaChaPoly => keys.begin(state, suite, key, nonce, aad),
         Construction::Gcm => {
             let (cipher, ghash_key) = (kept.aes(suite), kept.ghash_key(suite));
-            opener.begin_by(suite, key, &cipher, &ghash_key, nonce, aad, tag)
+            keys.begin_by(state, suite, key, &cipher, &ghash_key, nonce, aad)
         }
-        Construction::GcmSiv => {
-            let unused = Block::new([0; 16]);
-            opener.begin_by(suite, key, &kept.aes(suite), &unused, nonce, aad, tag)
-        }
+        Construction::GcmSiv => keys.begin_siv_by(state, suite, &kept.aes(suite), nonce, aad),
     }
-}
-
-// Begins the first reading of a sealing, under a kept key and the bytes of a nonce.
-fn begin_siv(
-    siv: &mut KeyedSiv,
-    kept: &StoredKey,
-    suite: Suite,
-    nonce: &[u8],
-    aad: &[u8],
-) -> Result<(), Fault>
-    requires marked { kept.now.numbers.mark ≡ key_mark suite }
-    requires by { construction_of suite ≡ ByGcmSiv }
-    ensures answer { let s = setting_of suite (first_key suite kept.now.numbers.key) nonce.now aad.now in
-        MatchResult result (λ _. HoldsFirstReading siv.new s []) (BeginRefused s) }
-    ensures kept { OnErr result (siv.new ≡ siv.old) }
-{
-    siv.begin_by(suite, &kept.aes(suite), nonce, aad)
 }
 
 /// Leaves zeros in the struct, whatever bytes it held: it then keeps neither a key nor a value that depends on one.
@@ -327,8 +283,8 @@ pub extern "C" fn aeadkit_sealer_init_with(
     if is_siv(suite) {
         return UNKNOWN_SUITE;
     }
-    let begun = begin_sealer(&mut sealer.sealer, kept, suite, nonce, aad);
-    sealer.begin(suite, begun)
+    let begun = begin_by_kept(&mut sealer.keys, &mut sealer.state, kept, suite, nonce, aad);
+    sealer.note_begun(suite, begun)
 }
 
 /// Begins an opening in pieces under a kept key, as `aeadkit_opener_init` does under the bytes of a key. What the opener held
@@ -352,8 +308,15 @@ pub extern "C" fn aeadkit_opener_init_with(
     let Some(suite) = marked(KEY, kept.numbers.mark) else {
         return NOT_BEGUN;
     };
-    let begun = begin_opener(&mut opener.opener, kept, suite, nonce, aad, tag);
-    opener.begin(suite, begun)
+    let begun = begin_by_kept(
+        &mut opener.keys,
+        &mut opener.state.pass,
+        kept,
+        suite,
+        nonce,
+        aad,
+    );
+    opener.note_begun(suite, begun, tag)
 }
 
 /// Begins a sealing in two readings under a kept key, as `aeadkit_siv_init` does under the bytes of a key. What `siv` held before
@@ -384,8 +347,8 @@ pub extern "C" fn aeadkit_siv_init_with(
     if !is_siv(suite) {
         return UNKNOWN_SUITE;
     }
-    let begun = begin_siv(&mut siv.siv, kept, suite, nonce, aad);
-    siv.begin(suite, begun)
+    let begun = begin_by_kept(&mut siv.keys, &mut siv.state.pass, kept, suite, nonce, aad);
+    siv.note_begun(suite, begun)
 }
 
 /// Returns the size of the struct that keeps a key: 808 bytes.

@@ -2,14 +2,13 @@
 //! the ciphertext authenticates it and gives no text. The second one decrypts, and begins only if the first was over a valid
 //! sealing.
 
-ghost use Rattle.std.specs.Prelude.{◌≡◌, ◌≢◌, ◌+◌, ℕ, List, [], length, min, MatchResult, OnErr};
+ghost use Rattle.std.specs.Prelude.{◌≡◌, ◌≢◌, ◌+◌, ℕ, List, [], length, min, MatchResult, IfOk, OnErr};
 ghost use Rattle.octets.specs.Numbers.{HasOutcome};
 ghost use Rattle.aead.specs.declared.suite.Suite.{Suite};
 ghost use Rattle.aead.specs.Suites.{text_limit, suite_number};
 ghost use Rattle.aead.specs.Sealing.{Setting};
-ghost use Rattle.aead.specs.Pieces.{IsInFirstPass, IsInSecondPass};
-ghost use Rattle.aead.specs.KeyedPasses.{setting_of, BeginRefused};
-ghost use Rattle.aead.specs.KeyedPieces.{HoldsFirstPass, opener_count, opener_first, opener_state};
+ghost use Rattle.aead.specs.Pieces.{IsInFirstPass, IsInSecondPass, MasksByBytes};
+ghost use Rattle.aead.specs.KeyedPasses.{setting_of, BeginRefused, HasBegun};
 ghost use Rattle.capi.specs.Suites.{unknown_suite, not_begun, FitsOr, IsDoneOr};
 ghost use Rattle.capi.specs.Openers.{checking, opening, NotIn, zeros, HoldsChecking, HoldsOpening};
 ghost use Rattle.capi.specs.Openers.{Checks, BeginsSecond, Decrypts, Ends};
@@ -17,7 +16,8 @@ ghost use Rattle.capi.specs.Saved.{NotMarked, Resumes};
 
 use crate::saved::SavedPasses;
 use crate::suites::{NOT_BEGUN, UNKNOWN_SUITE, mark_of, marked, suite_numbered};
-use aead::{KeyedOpener, Suite};
+use aead::{KeyAndNonce, Suite, TwoPassState};
+use aes::KnownBlock;
 use octets::{Fault, outcome_number};
 
 // The number of this kind of struct in the first pass: `opener` in ASCII, and the version of its layout. A mark is this number
@@ -33,7 +33,8 @@ const OPENING: u64 = 0x6f70_656e_6564_0200;
 pub struct StoredOpener {
     // The mark of an opening in one of its passes, under a suite; any other number if no opening is begun.
     mark: u64,
-    pub(crate) opener: KeyedOpener,
+    pub(crate) keys: KeyAndNonce,
+    pub(crate) state: TwoPassState,
 }
 
 impl StoredOpener {
@@ -43,22 +44,30 @@ impl StoredOpener {
     {
         StoredOpener {
             mark: 0,
-            opener: KeyedOpener::zeros(),
+            keys: KeyAndNonce::zeros(),
+            state: TwoPassState::zeros(),
         }
     }
 
-    // Marks the struct if the opening was begun in it. If that was refused, the struct stays zeros. Returns the status.
+    // Marks the struct if the message was begun in it: the first pass begins, under this tag. If that was refused, the struct stays
+    // zeros. Returns the status.
     #[inline(always)]
-    pub(crate) fn begin(&mut self, suite: Suite, begun: Result<(), Fault>) -> u32
+    pub(crate) fn note_begun(
+        &mut self,
+        suite: Suite,
+        begun: Result<(), Fault>,
+        tag: &[u8; 16],
+    ) -> u32
         requires { OnErr begun (self.old ≡ zeros) }
-        ensures begins { (s : Setting) (tag : List ℕ) → s.suite ≡ suite
-            → MatchResult begun (λ _. HoldsFirstPass self.old.opener s tag []) (BeginRefused s)
-            → HasOutcome result (HoldsChecking self.new s tag []) (BeginRefused s) }
+        ensures begins { (s : Setting) → s.suite ≡ suite → IfOk begun (λ _. MasksByBytes s)
+            → MatchResult begun (λ _. HasBegun self.old.keys self.old.state.pass s) (BeginRefused s)
+            → HasOutcome result (HoldsChecking self.new s tag.now []) (BeginRefused s) }
         ensures refused { result ≢ 0 → self.new ≡ zeros }
     {
         match begun {
             Ok(()) => {
                 self.mark = mark_of(CHECKING, suite);
+                self.state = TwoPassState::first_pass(self.state.pass, tag);
                 outcome_number(Ok(()))
             }
             Err(fault) => outcome_number(Err(fault)),
@@ -102,8 +111,10 @@ pub extern "C" fn aeadkit_opener_init(
     let Some(suite) = suite_numbered(u64::from(suite)) else {
         return UNKNOWN_SUITE;
     };
-    let begun = opener.opener.begin(suite, key, nonce, aad, tag);
-    opener.begin(suite, begun)
+    let begun = opener
+        .keys
+        .begin(&mut opener.state.pass, suite, key, nonce, aad);
+    opener.note_begun(suite, begun, tag)
 }
 
 /// Takes in a piece of the ciphertext, of any length, in the first pass. Returns 0, `NOT_BEGUN` if the struct is not in its first
@@ -115,13 +126,14 @@ pub extern "C" fn aeadkit_opener_check(opener: &mut StoredOpener, piece: &[u8]) 
     ensures not_begun { NotIn checking opener.old → result ≡ not_begun }
     ensures kept { result ≢ 0 → opener.new ≡ opener.old }
     ensures status { (suite : Suite) → opener.old.mark ≡ checking + suite_number suite
-        → FitsOr Fault.TextTooLong result (opener_count opener.old.opener) (length piece.now)
+        → FitsOr Fault.TextTooLong result opener.old.state.pass.length (length piece.now)
         (text_limit suite) }
 {
     let Some(suite) = marked(CHECKING, opener.mark) else {
         return NOT_BEGUN;
     };
-    outcome_number(opener.opener.check(suite, piece))
+    let keys = opener.keys.keys(suite);
+    outcome_number(opener.state.check(&keys, piece))
 }
 
 /// Ends the first pass. If it was over a valid sealing, the second pass begins, which has taken in nothing yet. Returns 0,
@@ -139,7 +151,8 @@ pub extern "C" fn aeadkit_opener_begin_second(opener: &mut StoredOpener) -> u32
     let Some(suite) = marked(CHECKING, opener.mark) else {
         return NOT_BEGUN;
     };
-    match opener.opener.begin_second(suite) {
+    let keys = opener.keys.keys(suite);
+    match opener.state.begin_second_pass(&keys) {
         Ok(()) => {
             opener.mark = mark_of(OPENING, suite);
             outcome_number(Ok(()))
@@ -161,13 +174,15 @@ pub extern "C" fn aeadkit_opener_update(opener: &mut StoredOpener, piece: &mut [
     ensures not_begun { NotIn opening opener.old → result ≡ not_begun }
     ensures kept { result ≢ 0 → (opener.new ≡ opener.old) × (piece.new ≡ piece.old) }
     ensures status { (suite : Suite) → opener.old.mark ≡ opening + suite_number suite
-        → FitsOr Fault.SourceChanged result (opener_count opener.old.opener) (length piece.old)
-        (min (opener_first opener.old.opener) (text_limit suite)) }
+        → FitsOr Fault.SourceChanged result opener.old.state.pass.length (length piece.old)
+        (min opener.old.state.first (text_limit suite)) }
 {
     let Some(suite) = marked(OPENING, opener.mark) else {
         return NOT_BEGUN;
     };
-    outcome_number(opener.opener.update(suite, piece))
+    let keys = opener.keys.keys(suite);
+    let mut known = KnownBlock::none();
+    outcome_number(opener.state.open(&keys, &mut known, piece))
 }
 
 /// Ends the second pass. Returns 0 if it was over a valid sealing, else `SourceChanged`: the caller then has to throw away the
@@ -186,7 +201,8 @@ pub extern "C" fn aeadkit_opener_finish(opener: &mut StoredOpener) -> u32
     let Some(suite) = marked(OPENING, opener.mark) else {
         return NOT_BEGUN;
     };
-    let outcome = opener.opener.finish(suite);
+    let keys = opener.keys.keys(suite);
+    let outcome = opener.state.end_pass(&keys);
     *opener = StoredOpener::zeros();
     outcome_number(outcome)
 }
@@ -200,7 +216,7 @@ pub extern "C" fn aeadkit_opener_save(opener: &StoredOpener, saved: &mut SavedPa
     ensures second { (s : Setting) (tag : List ℕ) (first : ℕ) (bytes : List ℕ)
         → HoldsOpening opener.now s tag first bytes
         → (result ≡ 0) × (saved.new.mark ≡ opener.now.mark) × IsInSecondPass saved.new.state s tag first bytes }
-    ensures state { result ≡ 0 → saved.new.state ≡ opener_state opener.now.opener }
+    ensures state { result ≡ 0 → saved.new.state ≡ opener.now.state }
     ensures not_begun { NotIn checking opener.now → NotIn opening opener.now → result ≡ not_begun }
     ensures kept { result ≢ 0 → saved.new ≡ saved.old }
     ensures checks { (suite : Suite) → opener.now.mark ≡ checking + suite_number suite → result ≡ 0 }
@@ -211,7 +227,7 @@ pub extern "C" fn aeadkit_opener_save(opener: &StoredOpener, saved: &mut SavedPa
     };
     *saved = SavedPasses {
         mark: opener.mark,
-        state: opener.opener.state(),
+        state: opener.state,
     };
     outcome_number(Ok(()))
 }
@@ -241,11 +257,12 @@ pub extern "C" fn aeadkit_opener_resume(
     let Some(suite) = in_a_pass(saved.mark) else {
         return NOT_BEGUN;
     };
-    match KeyedOpener::resumed(suite, key, nonce, &saved.state) {
-        Ok(resumed) => {
+    match KeyAndNonce::resumed(suite, key, nonce, &saved.state.pass) {
+        Ok(keys) => {
             *opener = StoredOpener {
                 mark: saved.mark,
-                opener: resumed,
+                keys,
+                state: saved.state,
             };
             outcome_number(Ok(()))
         }
@@ -259,7 +276,8 @@ pub extern "C" fn aeadkit_opener_wipe(opener: &mut StoredOpener)
     ensures { opener.new ≡ zeros }
 {
     opener.mark = 0;
-    opener.opener = KeyedOpener::zeros();
+    opener.keys = KeyAndNonce::zeros();
+    opener.state = TwoPassState::zeros();
 }
 
 /// Returns the size of the struct of an opening in pieces: 192 bytes.

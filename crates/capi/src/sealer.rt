@@ -7,15 +7,15 @@ ghost use Rattle.aead.specs.declared.suite.Suite.{Suite};
 ghost use Rattle.aead.specs.Suites.{construction_of, is_one_pass, text_limit, suite_number};
 ghost use Rattle.aead.specs.Sealing.{Setting, tag_of};
 ghost use Rattle.aead.specs.PassStates.{HoldsState};
-ghost use Rattle.aead.specs.KeyedPasses.{setting_of, BeginRefused};
-ghost use Rattle.aead.specs.KeyedPieces.{HoldsKeyedText, sealer_count, sealer_state};
+ghost use Rattle.aead.specs.KeyedPasses.{setting_of, BeginRefused, HasBegun};
 ghost use Rattle.capi.specs.Suites.{unknown_suite, not_begun, FitsOr};
 ghost use Rattle.capi.specs.Sealers.{sealer_mark, NotBegun, zeros, HoldsText, Updates};
 ghost use Rattle.capi.specs.Saved.{NotOfSealer, Resumes};
 
 use crate::saved::SavedSealer;
 use crate::suites::{NOT_BEGUN, UNKNOWN_SUITE, mark_of, one_pass_marked, one_pass_numbered};
-use aead::{KeyedSealer, Suite};
+use aead::{KeyAndNonce, PassState, Suite};
+use aes::KnownBlock;
 use octets::{Fault, outcome_number};
 
 // The number of this kind of struct: `sealer` in ASCII, and the version of its layout. A mark is this number plus the suite's.
@@ -27,7 +27,8 @@ const SEALER: u64 = 0x7365_616c_6572_0200;
 pub struct StoredSealer {
     // The mark of a sealing under a suite; any other number if no sealing is begun.
     mark: u64,
-    pub(crate) sealer: KeyedSealer,
+    pub(crate) keys: KeyAndNonce,
+    pub(crate) state: PassState,
 }
 
 impl StoredSealer {
@@ -37,16 +38,17 @@ impl StoredSealer {
     {
         StoredSealer {
             mark: 0,
-            sealer: KeyedSealer::zeros(),
+            keys: KeyAndNonce::zeros(),
+            state: PassState::zeros(),
         }
     }
 
     // Marks the struct if the sealing was begun in it. If that was refused, the struct stays zeros. Returns the status.
     #[inline(always)]
-    pub(crate) fn begin(&mut self, suite: Suite, begun: Result<(), Fault>) -> u32
+    pub(crate) fn note_begun(&mut self, suite: Suite, begun: Result<(), Fault>) -> u32
         requires { OnErr begun (self.old ≡ zeros) }
-        ensures begins { (s : Setting) → s.suite ≡ suite
-            → MatchResult begun (λ _. HoldsKeyedText self.old.sealer s []) (BeginRefused s)
+        ensures begins { (s : Setting) → s.suite ≡ suite → is_one_pass (construction_of suite) ≡ true
+            → MatchResult begun (λ _. HasBegun self.old.keys self.old.state s) (BeginRefused s)
             → HasOutcome result (HoldsText self.new s []) (BeginRefused s) }
         ensures refused { result ≢ 0 → self.new ≡ zeros }
     {
@@ -85,8 +87,8 @@ pub extern "C" fn aeadkit_sealer_init(
     let Some(suite) = one_pass_numbered(u64::from(suite)) else {
         return UNKNOWN_SUITE;
     };
-    let begun = sealer.sealer.begin(suite, key, nonce, aad);
-    sealer.begin(suite, begun)
+    let begun = sealer.keys.begin(&mut sealer.state, suite, key, nonce, aad);
+    sealer.note_begun(suite, begun)
 }
 
 /// Adds a piece, of any length, to the text, and leaves its ciphertext in its place. Returns 0, `NOT_BEGUN` if no sealing is
@@ -100,13 +102,15 @@ pub extern "C" fn aeadkit_sealer_update(sealer: &mut StoredSealer, piece: &mut [
     ensures kept { result ≢ 0 → (sealer.new ≡ sealer.old) × (piece.new ≡ piece.old) }
     ensures status { (suite : Suite) → is_one_pass (construction_of suite) ≡ true
         → sealer.old.mark ≡ sealer_mark suite
-        → FitsOr Fault.TextTooLong result (sealer_count sealer.old.sealer) (length piece.old)
+        → FitsOr Fault.TextTooLong result sealer.old.state.length (length piece.old)
         (text_limit suite) }
 {
     let Some(suite) = one_pass_marked(SEALER, sealer.mark) else {
         return NOT_BEGUN;
     };
-    outcome_number(sealer.sealer.update(suite, piece))
+    let keys = sealer.keys.keys(suite);
+    let mut known = KnownBlock::none();
+    outcome_number(sealer.state.seal(&keys, &mut known, piece))
 }
 
 /// Ends the sealing: `tag` becomes the tag of the text, 16 bytes, and zeros are left in the struct. Returns 0, or `NOT_BEGUN` if
@@ -124,7 +128,8 @@ pub extern "C" fn aeadkit_sealer_finish(sealer: &mut StoredSealer, tag: &mut [u8
     let Some(suite) = one_pass_marked(SEALER, sealer.mark) else {
         return NOT_BEGUN;
     };
-    *tag = *sealer.sealer.tag(suite).bytes();
+    let keys = sealer.keys.keys(suite);
+    *tag = *sealer.state.tag_of_text(&keys).bytes();
     *sealer = StoredSealer::zeros();
     0
 }
@@ -137,7 +142,7 @@ pub extern "C" fn aeadkit_sealer_finish(sealer: &mut StoredSealer, tag: &mut [u8
 pub extern "C" fn aeadkit_sealer_save(sealer: &StoredSealer, saved: &mut SavedSealer) -> u32
     ensures holds { (s : Setting) (text : List ℕ) → HoldsText sealer.now s text
         → (result ≡ 0) × (saved.new.mark ≡ sealer.now.mark) × HoldsState saved.new.state s text }
-    ensures state { result ≡ 0 → saved.new.state ≡ sealer_state sealer.now.sealer }
+    ensures state { result ≡ 0 → saved.new.state ≡ sealer.now.state }
     ensures not_begun { NotBegun sealer.now → result ≡ not_begun }
     ensures kept { result ≢ 0 → saved.new ≡ saved.old }
     ensures status { (suite : Suite) → is_one_pass (construction_of suite) ≡ true
@@ -148,7 +153,7 @@ pub extern "C" fn aeadkit_sealer_save(sealer: &StoredSealer, saved: &mut SavedSe
     };
     *saved = SavedSealer {
         mark: mark_of(SEALER, suite),
-        state: sealer.sealer.state(),
+        state: sealer.state,
     };
     outcome_number(Ok(()))
 }
@@ -176,11 +181,12 @@ pub extern "C" fn aeadkit_sealer_resume(
     let Some(suite) = one_pass_marked(SEALER, saved.mark) else {
         return NOT_BEGUN;
     };
-    match KeyedSealer::resumed(suite, key, nonce, &saved.state) {
-        Ok(resumed) => {
+    match KeyAndNonce::resumed(suite, key, nonce, &saved.state) {
+        Ok(keys) => {
             *sealer = StoredSealer {
                 mark: mark_of(SEALER, suite),
-                sealer: resumed,
+                keys,
+                state: saved.state,
             };
             outcome_number(Ok(()))
         }
@@ -194,7 +200,8 @@ pub extern "C" fn aeadkit_sealer_wipe(sealer: &mut StoredSealer)
     ensures { sealer.new ≡ zeros }
 {
     sealer.mark = 0;
-    sealer.sealer = KeyedSealer::zeros();
+    sealer.keys = KeyAndNonce::zeros();
+    sealer.state = PassState::zeros();
 }
 
 /// Returns the size of the struct of a sealing in pieces in one reading: 144 bytes.

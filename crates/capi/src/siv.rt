@@ -8,8 +8,7 @@ ghost use Rattle.aead.specs.declared.suite.Construction.TheVariants.{GcmSiv as B
 ghost use Rattle.aead.specs.Suites.{construction_of, text_limit, suite_number};
 ghost use Rattle.aead.specs.Sealing.{Setting};
 ghost use Rattle.aead.specs.Pieces.{IsInFirstReading, IsInSecondReading};
-ghost use Rattle.aead.specs.KeyedPasses.{setting_of, BeginRefused};
-ghost use Rattle.aead.specs.KeyedPieces.{HoldsFirstReading, siv_count, siv_first, siv_state};
+ghost use Rattle.aead.specs.KeyedPasses.{setting_of, BeginRefused, HasBegun};
 ghost use Rattle.capi.specs.Suites.{unknown_suite, not_begun, FitsOr, IsDoneOr};
 ghost use Rattle.capi.specs.Sivs.{absorbing, writing, NotIn, zeros, HoldsAbsorbing, HoldsWriting};
 ghost use Rattle.capi.specs.Sivs.{Absorbs, BeginsSecond, Encrypts, Ends};
@@ -17,7 +16,8 @@ ghost use Rattle.capi.specs.Saved.{NotOfSiv, Resumes};
 
 use crate::saved::SavedPasses;
 use crate::suites::{NOT_BEGUN, UNKNOWN_SUITE, mark_of, siv_marked, siv_numbered};
-use aead::{KeyedSiv, Suite};
+use aead::{KeyAndNonce, Suite, TwoPassState};
+use aes::KnownBlock;
 use octets::{Fault, outcome_number};
 
 // The number of this kind of struct in the first reading: `sivone` in ASCII, and the version of its layout. A mark is this number
@@ -33,7 +33,8 @@ const WRITING: u64 = 0x7369_7674_776f_0200;
 pub struct StoredSiv {
     // The mark of a sealing in one of its readings, under a suite; any other number if no sealing is begun.
     mark: u64,
-    pub(crate) siv: KeyedSiv,
+    pub(crate) keys: KeyAndNonce,
+    pub(crate) state: TwoPassState,
 }
 
 impl StoredSiv {
@@ -43,22 +44,25 @@ impl StoredSiv {
     {
         StoredSiv {
             mark: 0,
-            siv: KeyedSiv::zeros(),
+            keys: KeyAndNonce::zeros(),
+            state: TwoPassState::zeros(),
         }
     }
 
-    // Marks the struct if the sealing was begun in it. If that was refused, the struct stays zeros. Returns the status.
+    // Marks the struct if the message was begun in it: the first reading begins. If that was refused, the struct stays zeros. Returns
+    // the status.
     #[inline(always)]
-    pub(crate) fn begin(&mut self, suite: Suite, begun: Result<(), Fault>) -> u32
+    pub(crate) fn note_begun(&mut self, suite: Suite, begun: Result<(), Fault>) -> u32
         requires { OnErr begun (self.old ≡ zeros) }
-        ensures begins { (s : Setting) → s.suite ≡ suite
-            → MatchResult begun (λ _. HoldsFirstReading self.old.siv s []) (BeginRefused s)
+        ensures begins { (s : Setting) → s.suite ≡ suite → construction_of suite ≡ ByGcmSiv
+            → MatchResult begun (λ _. HasBegun self.old.keys self.old.state.pass s) (BeginRefused s)
             → HasOutcome result (HoldsAbsorbing self.new s []) (BeginRefused s) }
         ensures refused { result ≢ 0 → self.new ≡ zeros }
     {
         match begun {
             Ok(()) => {
                 self.mark = mark_of(ABSORBING, suite);
+                self.state = TwoPassState::first_reading(self.state.pass);
                 outcome_number(Ok(()))
             }
             Err(fault) => outcome_number(Err(fault)),
@@ -107,8 +111,8 @@ pub extern "C" fn aeadkit_siv_init(
     let Some(suite) = siv_numbered(u64::from(suite)) else {
         return UNKNOWN_SUITE;
     };
-    let begun = siv.siv.begin(suite, key, nonce, aad);
-    siv.begin(suite, begun)
+    let begun = siv.keys.begin(&mut siv.state.pass, suite, key, nonce, aad);
+    siv.note_begun(suite, begun)
 }
 
 /// Takes in a piece of the text, of any length, in the first reading. Returns 0, `NOT_BEGUN` if the struct is not in its first
@@ -120,12 +124,13 @@ pub extern "C" fn aeadkit_siv_absorb(siv: &mut StoredSiv, piece: &[u8]) -> u32
     ensures kept { result ≢ 0 → siv.new ≡ siv.old }
     ensures status { (suite : Suite) → construction_of suite ≡ ByGcmSiv
         → siv.old.mark ≡ absorbing + suite_number suite
-        → FitsOr Fault.TextTooLong result (siv_count siv.old.siv) (length piece.now) (text_limit suite) }
+        → FitsOr Fault.TextTooLong result siv.old.state.pass.length (length piece.now) (text_limit suite) }
 {
     let Some(suite) = siv_marked(ABSORBING, siv.mark) else {
         return NOT_BEGUN;
     };
-    outcome_number(siv.siv.absorb(suite, piece))
+    let keys = siv.keys.keys(suite);
+    outcome_number(siv.state.absorb(&keys, piece))
 }
 
 /// Ends the first reading: `tag` becomes the tag of its text, 16 bytes, and the second reading begins, which has taken in nothing
@@ -141,7 +146,8 @@ pub extern "C" fn aeadkit_siv_begin_second(siv: &mut StoredSiv, tag: &mut [u8; 1
     let Some(suite) = siv_marked(ABSORBING, siv.mark) else {
         return NOT_BEGUN;
     };
-    *tag = *siv.siv.begin_second(suite).bytes();
+    let keys = siv.keys.keys(suite);
+    *tag = *siv.state.begin_second_reading(&keys).bytes();
     siv.mark = mark_of(WRITING, suite);
     0
 }
@@ -157,13 +163,15 @@ pub extern "C" fn aeadkit_siv_update(siv: &mut StoredSiv, piece: &mut [u8]) -> u
     ensures kept { result ≢ 0 → (siv.new ≡ siv.old) × (piece.new ≡ piece.old) }
     ensures status { (suite : Suite) → construction_of suite ≡ ByGcmSiv
         → siv.old.mark ≡ writing + suite_number suite
-        → FitsOr Fault.SourceChanged result (siv_count siv.old.siv) (length piece.old)
-        (min (siv_first siv.old.siv) (text_limit suite)) }
+        → FitsOr Fault.SourceChanged result siv.old.state.pass.length (length piece.old)
+        (min siv.old.state.first (text_limit suite)) }
 {
     let Some(suite) = siv_marked(WRITING, siv.mark) else {
         return NOT_BEGUN;
     };
-    outcome_number(siv.siv.update(suite, piece))
+    let keys = siv.keys.keys(suite);
+    let mut known = KnownBlock::none();
+    outcome_number(siv.state.write(&keys, &mut known, piece))
 }
 
 /// Ends the second reading. Returns 0 if its text has the length and the tag of the first one, else `SourceChanged`: the caller
@@ -181,7 +189,8 @@ pub extern "C" fn aeadkit_siv_finish(siv: &mut StoredSiv) -> u32
     let Some(suite) = siv_marked(WRITING, siv.mark) else {
         return NOT_BEGUN;
     };
-    let outcome = siv.siv.finish(suite);
+    let keys = siv.keys.keys(suite);
+    let outcome = siv.state.end_reading(&keys);
     *siv = StoredSiv::zeros();
     outcome_number(outcome)
 }
@@ -196,7 +205,7 @@ pub extern "C" fn aeadkit_siv_save(siv: &StoredSiv, saved: &mut SavedPasses) -> 
         → (result ≡ 0) × (saved.new.mark ≡ siv.now.mark) × IsInFirstReading saved.new.state s text }
     ensures second { (s : Setting) (first text : List ℕ) → HoldsWriting siv.now s first text
         → (result ≡ 0) × (saved.new.mark ≡ siv.now.mark) × IsInSecondReading saved.new.state s first text }
-    ensures state { result ≡ 0 → saved.new.state ≡ siv_state siv.now.siv }
+    ensures state { result ≡ 0 → saved.new.state ≡ siv.now.state }
     ensures not_begun { NotIn absorbing siv.now → NotIn writing siv.now → result ≡ not_begun }
     ensures kept { result ≢ 0 → saved.new ≡ saved.old }
     ensures absorbs { (suite : Suite) → construction_of suite ≡ ByGcmSiv
@@ -209,7 +218,7 @@ pub extern "C" fn aeadkit_siv_save(siv: &StoredSiv, saved: &mut SavedPasses) -> 
     };
     *saved = SavedPasses {
         mark: siv.mark,
-        state: siv.siv.state(),
+        state: siv.state,
     };
     outcome_number(Ok(()))
 }
@@ -243,11 +252,12 @@ pub extern "C" fn aeadkit_siv_resume(
     let Some(suite) = in_a_reading(saved.mark) else {
         return NOT_BEGUN;
     };
-    match KeyedSiv::resumed(suite, key, nonce, &saved.state) {
-        Ok(resumed) => {
+    match KeyAndNonce::resumed(suite, key, nonce, &saved.state.pass) {
+        Ok(keys) => {
             *siv = StoredSiv {
                 mark: saved.mark,
-                siv: resumed,
+                keys,
+                state: saved.state,
             };
             outcome_number(Ok(()))
         }
@@ -261,7 +271,8 @@ pub extern "C" fn aeadkit_siv_wipe(siv: &mut StoredSiv)
     ensures { siv.new ≡ zeros }
 {
     siv.mark = 0;
-    siv.siv = KeyedSiv::zeros();
+    siv.keys = KeyAndNonce::zeros();
+    siv.state = TwoPassState::zeros();
 }
 
 /// Returns the size of the struct of a sealing in two readings: 192 bytes.

@@ -1,4 +1,4 @@
-use Rattle.std.proofs.Common.{◌++◌, List, ℕ, refl, sym, ap₂, subst, ◌∙◌}
+use Rattle.std.proofs.Common.{◌++◌, List, ℕ, [], refl, sym, ap₂, subst, ◌∙◌}
 use Rattle.aead.specs.Sealing.{Setting, Opened}
 use Rattle.aead.specs.KeyedPasses.{setting_of}
 use Rattle.aead.proofs.uses.opened_under_a_key_with_pauses.Goals as goal
@@ -11,14 +11,18 @@ returns c =
     let s : Setting = setting_of c.args.suite c.args.key.now c.args.nonce.now aad in
     let first : List ℕ = c.args.first.now in
     let second : List ℕ = c.args.second.now in
-    let one = c.in_ok-check.ensures.answer s tag _ refl c.in_ok-begin.ensures.answer in
-    let checked = c.state-checked.ensures.first s tag _ one in
-    let two = c.in_ok-check-2.ensures.answer s tag _ refl (c.in_ok-after.ensures.first aad tag _ checked) in
-    let begun = c.in_ok-begin_second.ensures.answer s tag _ refl two in
-    let three = c.in_ok-update.ensures.answer s tag _ _ refl begun.0 in
-    let opened = c.state-opened.ensures.second s tag _ _ three.0 in
-    let four = c.in_ok-update-2.ensures.answer s tag _ _ refl (c.in_ok-last.ensures.second aad tag _ _ opened) in
-    let opens = c.in_ok-finish.ensures.answer s tag _ _ refl four.0 in
+    let bytes = c.in_ok-begin.ensures.bytes in
+    let begun = c.in_ok-begin.ensures.answer in
+    let again = c.keys-keys.ensures.keys s refl (c.in_ok-again.ensures.answer aad) in
+    let one = c.in_ok-check.ensures.answer s tag [] (c.keys.ensures.keys s refl begun.0)
+    (c.first_pass-state.ensures s begun.1) in
+    let two = c.in_ok-check-2.ensures.answer s tag _ again one.0 in
+    let passed = c.in_ok-begin_second_pass.ensures.answer s tag _ again bytes two.0 in
+    let three = c.in_ok-open.ensures.answer s tag _ [] again bytes passed.0 (c.none.ensures _) in
+    let last = c.in_ok-last.ensures.answer aad in
+    let four = c.in_ok-open-2.ensures.answer s tag _ first (c.keys-2.ensures.keys s refl last) bytes three.0
+    (c.none-2.ensures _) in
+    let opens = c.in_ok-end_pass.ensures.answer s tag _ (first ++ second) (c.keys-3.ensures.keys s refl last) bytes four.0 in
     subst (λ (t : List ℕ). Opened s ((first ++ second) ++ tag) t)
     (sym (ap₂ (λ (x : List ℕ) (y : List ℕ). x ++ y) three.1 four.1
     ∙ c.masked_pieces_join.ensures s tag first second)) opens

@@ -1,8 +1,8 @@
-use Rattle.std.proofs.Common.{◌≡◌, ◌∙◌, [], refl, sym, ap, ap₂, subst, List, ℕ, MatchResult}
+use Rattle.std.proofs.Common.{◌≡◌, ◌∙◌, refl, sym, ap, ap₂, subst, List, ℕ, MatchResult}
 use Rattle.std.proofs.lemmas.Option.{same_Some}
 use Rattle.aead.specs.declared.suite.Suite.{Suite}
-use Rattle.aead.specs.KeyedPasses.{setting_of, BeginRefused}
-use Rattle.aead.specs.KeyedPieces.{HoldsKeyedText}
+use Rattle.aead.specs.Suites.{construction_of, is_one_pass}
+use Rattle.aead.specs.KeyedPasses.{setting_of, BeginRefused, HasBegun}
 use Rattle.capi.specs.Keys.{first_key}
 use Rattle.capi.proofs.key.aeadkit_sealer_init_with.Goals as goal
 
@@ -14,7 +14,8 @@ pub returns-clause-keeps : goal.returns-clause-keeps
 returns-clause-keeps c = λ suite key k one.
     let same : c.in-Some.suite ≡ suite = same_Some _ _ ((c.in-Some.ensures suite).1 k.mark_is) in
     let setting = λ (x : Suite) (y : List ℕ). setting_of x y c.args.nonce.now c.args.aad.now in
-    c.begin.ensures.begins (setting suite key) (sym same)
-    (subst (λ s. MatchResult c.begin_sealer-begun.result (λ _. HoldsKeyedText c.begin_sealer-begun.new.sealer s []) (BeginRefused s))
+    c.note_begun.ensures.begins (setting suite key) (sym same) (ap (λ x. is_one_pass (construction_of x)) same ∙ one)
+    (subst (λ s. MatchResult c.begin_by_kept-begun.result
+    (λ _. HasBegun c.begin_by_kept-begun.new.keys c.begin_by_kept-begun.new.state s) (BeginRefused s))
     (ap₂ setting same (ap (λ x. first_key x c.args.kept.now.numbers.key) same ∙ sym k.key_is))
-    c.begin_sealer-begun.ensures.answer)
+    c.begin_by_kept-begun.ensures.answer)

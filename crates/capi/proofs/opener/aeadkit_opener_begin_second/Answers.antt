@@ -8,12 +8,17 @@ use Rattle.capi.proofs.opener.aeadkit_opener_begin_second.Goals as goal
 pub returns-in-Ok-clause-holds : goal.returns-in-Ok-clause-holds
 returns-in-Ok-clause-holds c = λ s tag bytes h.
     let same : c.in-Some.suite ≡ s.suite = same_Some _ _ ((c.in-Some.ensures s.suite).1 h.mark_is) in
-    let passed = c.in-Ok.ensures.answer s tag bytes (sym same) h.opener in (
+    let passed = c.in-Ok.ensures.answer s tag bytes (c.keys-keys.ensures.keys s (sym same) h.keys) h.masks h.state in (
       Ok tt,
       (
         c.outcome_number.ensures,
         (
-          record { mark_is = c.mark_of-opener.ensures ∙ ap (λ x. opening + suite_number x) same; opener = passed.0 },
+          record {
+            mark_is = c.mark_of-opener.ensures ∙ ap (λ x. opening + suite_number x) same;
+            keys = h.keys;
+            masks = h.masks;
+            state = passed.0;
+          },
           passed.1,
         ),
       ),
@@ -22,7 +27,8 @@ returns-in-Ok-clause-holds c = λ s tag bytes h.
 pub returns-in-Err-clause-holds : goal.returns-in-Err-clause-holds
 returns-in-Err-clause-holds c = λ s tag bytes h.
     let same : c.in-Some.suite ≡ s.suite = same_Some _ _ ((c.in-Some.ensures s.suite).1 h.mark_is) in
-    (Err c.in-Err.fault, (c.outcome_number-in-Err.ensures, c.in-Err.ensures.answer s tag bytes (sym same) h.opener))
+    let keys = c.keys-keys.ensures.keys s (sym same) h.keys in
+    (Err c.in-Err.fault, (c.outcome_number-in-Err.ensures, c.in-Err.ensures.answer s tag bytes keys h.masks h.state))
 
 pub returns-in_default-clause-holds : goal.returns-in_default-clause-holds
 returns-in_default-clause-holds c = λ s tag bytes h.

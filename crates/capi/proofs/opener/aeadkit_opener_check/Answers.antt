@@ -1,8 +1,8 @@
-use Rattle.std.proofs.Common.{◌≡◌, refl, sym, subst, length}
+use Rattle.std.proofs.Common.{◌≡◌, ◌∙◌, refl, sym, ap, subst, length}
 use Rattle.std.proofs.lemmas.Option.{none-some, same_Some}
 use Rattle.octets.specs.declared.fault.Fault.TheVariants.{TextTooLong}
-use Rattle.aead.specs.Suites.{text_limit}
-use Rattle.aead.specs.KeyedPieces.{FitsIn, opener_count}
+use Rattle.aead.specs.Suites.{construction_of, text_limit_by}
+use Rattle.aead.specs.Refusals.{FitsIn}
 use Rattle.capi.proofs.Outcomes.{done_as}
 use Rattle.capi.proofs.opener.aeadkit_opener_check.Goals as goal
 
@@ -12,8 +12,9 @@ returns-clause-holds c = λ s tag bytes h.
       c.check.result,
       (
         c.outcome_number.ensures,
-        done_as c.check.result _ _ _ (λ d. record { mark_is = h.mark_is; opener = d })
-            (c.check.ensures.answer s tag bytes (sym same) h.opener),
+        done_as c.check.result _ _ _
+            (λ d. record { mark_is = h.mark_is; keys = h.keys; masks = h.masks; state = d.0 })
+            (c.check.ensures.answer s tag bytes (c.keys-keys.ensures.keys s (sym same) h.keys) h.state),
       ),
     )
 
@@ -31,7 +32,7 @@ returns-clause-status c = λ suite is.
       c.check.result,
       (
         c.outcome_number.ensures,
-        subst (λ x. FitsIn TextTooLong c.check.result (opener_count c.args.opener.now.opener)
-            (length c.args.piece.now) (text_limit x)) same c.check.ensures.fault,
+        subst (FitsIn TextTooLong c.check.result c.args.opener.now.state.pass.length (length c.args.piece.now))
+            (ap text_limit_by (c.keys-keys.ensures.by ∙ ap construction_of same)) c.check.ensures.fault,
       ),
     )

@@ -1,9 +1,9 @@
-use Rattle.std.proofs.Common.{◌≡◌, ◌∙◌, [], refl, sym, subst, MatchResult}
+use Rattle.std.proofs.Common.{◌≡◌, ◌∙◌, refl, sym, subst, IfOk, MatchResult}
 use Rattle.std.proofs.lemmas.Option.{same_Some}
 use Rattle.aead.specs.declared.suite.Suite.{Suite}
 use Rattle.aead.specs.Sealing.{Setting}
-use Rattle.aead.specs.KeyedPasses.{setting_of, BeginRefused}
-use Rattle.aead.specs.KeyedPieces.{HoldsFirstPass}
+use Rattle.aead.specs.Pieces.{MasksByBytes}
+use Rattle.aead.specs.KeyedPasses.{setting_of, BeginRefused, HasBegun}
 use Rattle.capi.proofs.opener.aeadkit_opener_init.Goals as goal
 
 pub returns-clause-known : goal.returns-clause-known
@@ -11,8 +11,10 @@ returns-clause-known c = λ named is.
     let same : c.in-Some.suite ≡ named =
     same_Some _ _ ((c.in-Some.ensures named).1 (c.from.ensures ∙ is)) in
     let setting : Suite → Setting = λ x. setting_of x c.args.key.now c.args.nonce.now c.args.aad.now in
-    c.begin.ensures.begins (setting named) c.args.tag.now (sym same)
-    (subst (λ x. MatchResult c.begin-begun.result (λ _. HoldsFirstPass c.begin-begun.new.self (setting x) c.args.tag.now [])
+    c.note_begun.ensures.begins (setting named) (sym same)
+    (subst (λ x. IfOk c.begin-begun.result (λ _. MasksByBytes (setting x))) same c.begin-begun.ensures.bytes)
+    (subst (λ x. MatchResult c.begin-begun.result
+    (λ _. HasBegun c.begin-begun.new.self c.begin-begun.new.state (setting x))
     (BeginRefused (setting x))) same c.begin-begun.ensures.answer)
 
 pub returns-clause-unknown : goal.returns-clause-unknown

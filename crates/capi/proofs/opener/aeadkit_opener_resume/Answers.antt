@@ -1,9 +1,8 @@
 use Rattle.std.proofs.Common.{◌≡◌, sym, subst, Ok, Err}
 use Rattle.std.proofs.lemmas.Option.{none-some, same_Some}
 use Rattle.aead.specs.declared.suite.Suite.{Suite}
-use Rattle.aead.specs.Pieces.{IsInFirstPass, IsInSecondPass}
-use Rattle.aead.specs.KeyedPieces.{HoldsFirstPass, HoldsSecondPass}
-use Rattle.aead.specs.KeyedPasses.{setting_of, ResumeRefused}
+use Rattle.aead.specs.Pieces.{MasksByBytes}
+use Rattle.aead.specs.KeyedPasses.{setting_of, HasKeys, ResumeRefused}
 use Rattle.aead.specs.PassStates.{HasHashKey}
 use Rattle.capi.proofs.opener.aeadkit_opener_resume.Goals as goal
 
@@ -18,10 +17,11 @@ returns-in-Ok-clause-first c = λ suite is.
               c.in-Ok.ensures.key,
           λ aad tag bytes n. record {
             mark_is = is;
-            opener = subst (λ (x : Suite). IsInFirstPass c.args.saved.now.state
-                (setting_of x c.args.key.now c.args.nonce.now aad) tag bytes
-                → HoldsFirstPass c.in-Ok.resumed (setting_of x c.args.key.now c.args.nonce.now aad) tag bytes) same
-                (c.in-Ok.ensures.first aad tag bytes) n;
+            keys = subst (λ (x : Suite). HasKeys c.in-Ok.keys (setting_of x c.args.key.now c.args.nonce.now aad)) same
+                (c.in-Ok.ensures.answer aad);
+            masks = subst (λ (x : Suite). MasksByBytes (setting_of x c.args.key.now c.args.nonce.now aad)) same
+                (c.in-Ok.ensures.bytes aad);
+            state = n;
           },
         ),
       ),
@@ -34,7 +34,7 @@ returns-in-Err-clause-first c = λ suite is.
       (
         c.outcome_number-in-Err.ensures,
         subst (λ x. ResumeRefused c.args.saved.now.state.pass x c.args.key.now c.args.nonce.now c.in-Err.fault) same
-            c.in-Err.ensures.first,
+            c.in-Err.ensures.answer,
       ),
     )
 
@@ -49,10 +49,11 @@ returns-in-Ok-clause-second c = λ suite is.
               c.in-Ok.ensures.key,
           λ aad tag first bytes n. record {
             mark_is = is;
-            opener = subst (λ (x : Suite). IsInSecondPass c.args.saved.now.state
-                (setting_of x c.args.key.now c.args.nonce.now aad) tag first bytes
-                → HoldsSecondPass c.in-Ok.resumed (setting_of x c.args.key.now c.args.nonce.now aad) tag first bytes) same
-                (c.in-Ok.ensures.second aad tag first bytes) n;
+            keys = subst (λ (x : Suite). HasKeys c.in-Ok.keys (setting_of x c.args.key.now c.args.nonce.now aad)) same
+                (c.in-Ok.ensures.answer aad);
+            masks = subst (λ (x : Suite). MasksByBytes (setting_of x c.args.key.now c.args.nonce.now aad)) same
+                (c.in-Ok.ensures.bytes aad);
+            state = n;
           },
         ),
       ),
@@ -65,7 +66,7 @@ returns-in-Err-clause-second c = λ suite is.
       (
         c.outcome_number-in-Err.ensures,
         subst (λ x. ResumeRefused c.args.saved.now.state.pass x c.args.key.now c.args.nonce.now c.in-Err.fault) same
-            c.in-Err.ensures.second,
+            c.in-Err.ensures.answer,
       ),
     )
 

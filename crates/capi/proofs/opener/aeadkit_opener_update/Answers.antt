@@ -1,19 +1,21 @@
-use Rattle.std.proofs.Common.{◌≡◌, refl, sym, subst, length, min}
+use Rattle.std.proofs.Common.{◌≡◌, ◌∙◌, refl, sym, ap, subst, length, min}
 use Rattle.std.proofs.lemmas.Option.{none-some, same_Some}
 use Rattle.octets.specs.declared.fault.Fault.TheVariants.{SourceChanged}
-use Rattle.aead.specs.Suites.{text_limit}
-use Rattle.aead.specs.KeyedPieces.{FitsIn, opener_count, opener_first}
+use Rattle.aead.specs.Suites.{construction_of, text_limit_by}
+use Rattle.aead.specs.Refusals.{FitsIn}
 use Rattle.capi.proofs.Outcomes.{done_as}
 use Rattle.capi.proofs.opener.aeadkit_opener_update.Goals as goal
 
 pub returns-clause-holds : goal.returns-clause-holds
 returns-clause-holds c = λ s tag first bytes h.
     let same : c.in-Some.suite ≡ s.suite = same_Some _ _ ((c.in-Some.ensures s.suite).1 h.mark_is) in (
-      c.update.result,
+      c.open.result,
       (
         c.outcome_number.ensures,
-        done_as c.update.result _ _ _ (λ d. (record { mark_is = h.mark_is; opener = d.0 }, d.1, d.2))
-            (c.update.ensures.answer s tag first bytes (sym same) h.opener),
+        done_as c.open.result _ _ _
+            (λ d. (record { mark_is = h.mark_is; keys = h.keys; masks = h.masks; state = d.0 }, d.1, d.2))
+            (c.open.ensures.answer s tag first bytes (c.keys-keys.ensures.keys s (sym same) h.keys) h.masks h.state
+            (c.none-known.ensures _)),
       ),
     )
 
@@ -28,10 +30,11 @@ returns-clause-not_begun c = λ none.
 pub returns-clause-status : goal.returns-clause-status
 returns-clause-status c = λ suite is.
     let same : c.in-Some.suite ≡ suite = same_Some _ _ ((c.in-Some.ensures suite).1 is) in (
-      c.update.result,
+      c.open.result,
       (
         c.outcome_number.ensures,
-        subst (λ x. FitsIn SourceChanged c.update.result (opener_count c.args.opener.now.opener) (length c.args.piece.now)
-            (min (opener_first c.args.opener.now.opener) (text_limit x))) same c.update.ensures.fault,
+        subst (λ x. FitsIn SourceChanged c.open.result c.args.opener.now.state.pass.length (length c.args.piece.now)
+            (min c.args.opener.now.state.first (text_limit_by x))) (c.keys-keys.ensures.by ∙ ap construction_of same)
+            c.open.ensures.fault,
       ),
     )

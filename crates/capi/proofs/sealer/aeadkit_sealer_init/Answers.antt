@@ -1,9 +1,8 @@
-use Rattle.std.proofs.Common.{◌≡◌, ◌∙◌, [], refl, sym, subst, MatchResult}
+use Rattle.std.proofs.Common.{◌≡◌, ◌∙◌, refl, sym, subst, MatchResult}
 use Rattle.std.proofs.lemmas.Option.{same_Some}
 use Rattle.aead.specs.declared.suite.Suite.{Suite}
 use Rattle.aead.specs.Sealing.{Setting}
-use Rattle.aead.specs.KeyedPasses.{setting_of, BeginRefused}
-use Rattle.aead.specs.KeyedPieces.{HoldsKeyedText}
+use Rattle.aead.specs.KeyedPasses.{setting_of, BeginRefused, HasBegun}
 use Rattle.capi.proofs.sealer.aeadkit_sealer_init.Goals as goal
 
 pub returns-clause-known : goal.returns-clause-known
@@ -11,9 +10,10 @@ returns-clause-known c = λ named one is.
     let same : c.in-Some.suite ≡ named =
     same_Some _ _ ((c.in-Some.ensures named).1 (one, c.from.ensures ∙ is)) in
     let setting : Suite → Setting = λ x. setting_of x c.args.key.now c.args.nonce.now c.args.aad.now in
-    c.begin.ensures.begins (setting named) (sym same)
-    (subst (λ x. MatchResult c.begin-begun.result (λ _. HoldsKeyedText c.begin-begun.new.self (setting x) []) (BeginRefused (setting x))) same
-    c.begin-begun.ensures.answer)
+    c.note_begun.ensures.begins (setting named) (sym same) ((c.in-Some.ensures c.in-Some.suite).0 refl).0
+    (subst (λ x. MatchResult c.begin-begun.result
+    (λ _. HasBegun c.begin-begun.new.self c.begin-begun.new.state (setting x))
+    (BeginRefused (setting x))) same c.begin-begun.ensures.answer)
 
 pub returns-clause-unknown : goal.returns-clause-unknown
 returns-clause-unknown c = λ none.

@@ -10,7 +10,7 @@ use Rattle.capi.proofs.sealer.aeadkit_sealer_resume.Goals as goal
 pub returns-in-Ok-clause-known : goal.returns-in-Ok-clause-known
 returns-in-Ok-clause-known c = λ suite one is.
     let same : c.in-Some.suite ≡ suite = same_Some _ _ ((c.in-Some.ensures suite).1 (one, is)) in
-    let new : StoredSealer = record { mark = c.mark_of.result; sealer = c.in-Ok.resumed } in (
+    let new : StoredSealer = record { mark = c.mark_of.result; keys = c.in-Ok.keys; state = c.args.saved.now.state } in (
       Ok tt,
       (
         c.outcome_number.ensures,
@@ -20,7 +20,12 @@ returns-in-Ok-clause-known c = λ suite one is.
           subst (λ (x : Suite). (aad text : List ℕ)
               → HoldsState c.args.saved.now.state (setting_of x c.args.key.now c.args.nonce.now aad) text
               → HoldsText new (setting_of x c.args.key.now c.args.nonce.now aad) text) same
-              (λ aad text n. record { mark_is = c.mark_of.ensures; sealer = c.in-Ok.ensures.answer aad text n }),
+              (λ aad text n. record {
+                mark_is = c.mark_of.ensures;
+                one_pass = ((c.in-Some.ensures c.in-Some.suite).0 refl).0;
+                keys = c.in-Ok.ensures.answer aad;
+                state = n;
+              }),
         ),
       ),
     )

@@ -1,20 +1,21 @@
-use Rattle.std.proofs.Common.{◌≡◌, refl, sym, subst, length}
+use Rattle.std.proofs.Common.{◌≡◌, ◌∙◌, refl, sym, ap, subst, length}
 use Rattle.std.proofs.lemmas.Option.{same_Some}
 use Rattle.octets.specs.declared.fault.Fault.TheVariants.{TextTooLong}
-use Rattle.aead.specs.Suites.{text_limit}
-use Rattle.aead.specs.KeyedPieces.{FitsIn, siv_count}
+use Rattle.aead.specs.Suites.{construction_of, text_limit_by}
+use Rattle.aead.specs.Refusals.{FitsIn}
 use Rattle.capi.proofs.Outcomes.{done_as}
 use Rattle.capi.proofs.siv.aeadkit_siv_absorb.Goals as goal
 
 pub returns-clause-holds : goal.returns-clause-holds
 returns-clause-holds c = λ s text h.
     let same : c.in-Some.suite ≡ s.suite =
-    same_Some _ _ ((c.in-Some.ensures s.suite).1 (h.siv.by_gcm_siv, h.mark_is)) in (
+    same_Some _ _ ((c.in-Some.ensures s.suite).1 (h.by_gcm_siv, h.mark_is)) in (
       c.absorb.result,
       (
         c.outcome_number.ensures,
-        done_as c.absorb.result _ _ _ (λ d. record { mark_is = h.mark_is; siv = d })
-            (c.absorb.ensures.answer s text (sym same) h.siv),
+        done_as c.absorb.result _ _ _
+            (λ d. record { mark_is = h.mark_is; by_gcm_siv = h.by_gcm_siv; keys = h.keys; state = d.0 })
+            (c.absorb.ensures.answer s text (c.keys-keys.ensures.keys s (sym same) h.keys) h.state),
       ),
     )
 
@@ -29,7 +30,7 @@ returns-clause-status c = λ suite by is.
       c.absorb.result,
       (
         c.outcome_number.ensures,
-        subst (λ x. FitsIn TextTooLong c.absorb.result (siv_count c.args.siv.now.siv) (length c.args.piece.now)
-            (text_limit x)) same c.absorb.ensures.fault,
+        subst (FitsIn TextTooLong c.absorb.result c.args.siv.now.state.pass.length (length c.args.piece.now))
+            (ap text_limit_by (c.keys-keys.ensures.by ∙ ap construction_of same)) c.absorb.ensures.fault,
       ),
     )

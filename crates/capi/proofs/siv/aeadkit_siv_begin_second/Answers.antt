@@ -7,11 +7,16 @@ use Rattle.capi.proofs.siv.aeadkit_siv_begin_second.Goals as goal
 pub returns-clause-holds : goal.returns-clause-holds
 returns-clause-holds c = λ s text h.
     let same : c.in-Some.suite ≡ s.suite =
-    same_Some _ _ ((c.in-Some.ensures s.suite).1 (h.siv.by_gcm_siv, h.mark_is)) in
-    let ended = c.begin_second.ensures s text (sym same) h.siv in (
+    same_Some _ _ ((c.in-Some.ensures s.suite).1 (h.by_gcm_siv, h.mark_is)) in
+    let ended = c.begin_second_reading.ensures s text h.by_gcm_siv (c.keys-keys.ensures.keys s (sym same) h.keys) h.state in (
       refl,
       c.bytes.ensures.value ∙ ended.0,
-      record { mark_is = c.mark_of-siv.ensures ∙ ap (λ x. writing + suite_number x) same; siv = ended.1 },
+      record {
+        mark_is = c.mark_of-siv.ensures ∙ ap (λ x. writing + suite_number x) same;
+        by_gcm_siv = h.by_gcm_siv;
+        keys = h.keys;
+        state = ended.1;
+      },
     )
 
 pub returns-clause-not_begun : goal.returns-clause-not_begun

@@ -6,8 +6,11 @@ use Rattle.capi.proofs.siv.aeadkit_siv_finish.Goals as goal
 pub returns-clause-holds : goal.returns-clause-holds
 returns-clause-holds c = λ s first text h.
     let same : c.in-Some.suite ≡ s.suite =
-    same_Some _ _ ((c.in-Some.ensures s.suite).1 (h.siv.by_gcm_siv, h.mark_is)) in
-    (c.finish-outcome.result, (c.outcome_number.ensures, c.finish-outcome.ensures.answer s first text (sym same) h.siv))
+    same_Some _ _ ((c.in-Some.ensures s.suite).1 (h.by_gcm_siv, h.mark_is)) in
+    let keys = c.keys-keys.ensures.keys s (sym same) h.keys in (
+      c.end_reading-outcome.result,
+      (c.outcome_number.ensures, c.end_reading-outcome.ensures.answer s first text h.by_gcm_siv keys h.state),
+    )
 
 pub returns-clause-not_begun : goal.returns-clause-not_begun
 returns-clause-not_begun c = λ none.
@@ -15,8 +18,8 @@ returns-clause-not_begun c = λ none.
     absurd (none c.in-Some.suite found.0 found.1)
 
 pub returns-clause-kept : goal.returns-clause-kept
-returns-clause-kept c = λ none. absurd (begun _ c.finish-outcome.result c.outcome_number.ensures none)
+returns-clause-kept c = λ none. absurd (begun _ c.end_reading-outcome.result c.outcome_number.ensures none)
 
 pub returns-clause-status : goal.returns-clause-status
 returns-clause-status c = λ suite by is.
-    (c.finish-outcome.result, (c.outcome_number.ensures, c.finish-outcome.ensures.fault))
+    (c.end_reading-outcome.result, (c.outcome_number.ensures, c.end_reading-outcome.ensures.fault))

@@ -1,9 +1,7 @@
 use Rattle.std.proofs.Common.{◌≡◌, sym, subst, Ok, Err}
 use Rattle.std.proofs.lemmas.Option.{none-some, same_Some}
 use Rattle.aead.specs.declared.suite.Suite.{Suite}
-use Rattle.aead.specs.Pieces.{IsInFirstReading, IsInSecondReading}
-use Rattle.aead.specs.KeyedPieces.{HoldsFirstReading, HoldsSecondReading}
-use Rattle.aead.specs.KeyedPasses.{setting_of, ResumeRefused}
+use Rattle.aead.specs.KeyedPasses.{setting_of, HasKeys, ResumeRefused}
 use Rattle.aead.specs.PassStates.{HasHashKey}
 use Rattle.capi.proofs.siv.aeadkit_siv_resume.Goals as goal
 
@@ -18,10 +16,10 @@ returns-in-Ok-clause-first c = λ suite by is.
               c.in-Ok.ensures.key,
           λ aad text n. record {
             mark_is = is;
-            siv = subst (λ (x : Suite). IsInFirstReading c.args.saved.now.state
-                (setting_of x c.args.key.now c.args.nonce.now aad) text
-                → HoldsFirstReading c.in-Ok.resumed (setting_of x c.args.key.now c.args.nonce.now aad) text) same
-                (c.in-Ok.ensures.first aad text) n;
+            by_gcm_siv = by;
+            keys = subst (λ (x : Suite). HasKeys c.in-Ok.keys (setting_of x c.args.key.now c.args.nonce.now aad)) same
+                (c.in-Ok.ensures.answer aad);
+            state = n;
           },
         ),
       ),
@@ -34,7 +32,7 @@ returns-in-Err-clause-first c = λ suite by is.
       (
         c.outcome_number-in-Err.ensures,
         subst (λ x. ResumeRefused c.args.saved.now.state.pass x c.args.key.now c.args.nonce.now c.in-Err.fault) same
-            c.in-Err.ensures.first,
+            c.in-Err.ensures.answer,
       ),
     )
 
@@ -49,10 +47,10 @@ returns-in-Ok-clause-second c = λ suite by is.
               c.in-Ok.ensures.key,
           λ aad first text n. record {
             mark_is = is;
-            siv = subst (λ (x : Suite). IsInSecondReading c.args.saved.now.state
-                (setting_of x c.args.key.now c.args.nonce.now aad) first text
-                → HoldsSecondReading c.in-Ok.resumed (setting_of x c.args.key.now c.args.nonce.now aad) first text) same
-                (c.in-Ok.ensures.second aad first text) n;
+            by_gcm_siv = by;
+            keys = subst (λ (x : Suite). HasKeys c.in-Ok.keys (setting_of x c.args.key.now c.args.nonce.now aad)) same
+                (c.in-Ok.ensures.answer aad);
+            state = n;
           },
         ),
       ),
@@ -65,7 +63,7 @@ returns-in-Err-clause-second c = λ suite by is.
       (
         c.outcome_number-in-Err.ensures,
         subst (λ x. ResumeRefused c.args.saved.now.state.pass x c.args.key.now c.args.nonce.now c.in-Err.fault) same
-            c.in-Err.ensures.second,
+            c.in-Err.ensures.answer,
       ),
     )
 

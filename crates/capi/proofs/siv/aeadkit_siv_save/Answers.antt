@@ -3,21 +3,18 @@ use Rattle.std.proofs.lemmas.Option.{none-some}
 use Rattle.capi.proofs.siv.aeadkit_siv_save.Goals as goal
 
 pub returns-clause-first : goal.returns-clause-first
-returns-clause-first c = λ s text h. (c.outcome_number.ensures, refl, c.state.ensures.first s text h.siv)
+returns-clause-first c = λ s text h. (c.outcome_number.ensures, refl, h.state)
 
 pub returns-clause-second : goal.returns-clause-second
-returns-clause-second c = λ s first text h. (c.outcome_number.ensures, refl, c.state.ensures.second s first text h.siv)
+returns-clause-second c = λ s first text h. (c.outcome_number.ensures, refl, h.state)
 
 pub returns-clause-not_begun : goal.returns-clause-not_begun
 returns-clause-not_begun c = λ neither nor. absurd (none-some _ (sym (c.in-Some.ensures.none neither nor)))
 
 pub returns-in_default-clause-first : goal.returns-in_default-clause-first
 returns-in_default-clause-first c = λ s text h.
-    absurd (none-some s.suite (c.in_default.ensures.first s.suite h.siv.by_gcm_siv h.mark_is))
+    absurd (none-some s.suite (c.in_default.ensures.first s.suite h.by_gcm_siv h.mark_is))
 
 pub returns-in_default-clause-second : goal.returns-in_default-clause-second
 returns-in_default-clause-second c = λ s first text h.
-    absurd (none-some s.suite (c.in_default.ensures.second s.suite h.siv.by_gcm_siv h.mark_is))
-
-pub returns-clause-state : goal.returns-clause-state
-returns-clause-state c = λ done. c.state.ensures.value
+    absurd (none-some s.suite (c.in_default.ensures.second s.suite h.by_gcm_siv h.mark_is))

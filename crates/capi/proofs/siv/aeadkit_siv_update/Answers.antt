@@ -1,20 +1,22 @@
-use Rattle.std.proofs.Common.{◌≡◌, refl, sym, subst, length, min}
+use Rattle.std.proofs.Common.{◌≡◌, ◌∙◌, refl, sym, ap, subst, arith, length, length-append, min}
 use Rattle.std.proofs.lemmas.Option.{same_Some}
+use Rattle.std.proofs.lemmas.Result.{MatchResult-weaker}
 use Rattle.octets.specs.declared.fault.Fault.TheVariants.{SourceChanged}
-use Rattle.aead.specs.Suites.{text_limit}
-use Rattle.aead.specs.KeyedPieces.{FitsIn, siv_count, siv_first}
-use Rattle.capi.proofs.Outcomes.{done_as}
+use Rattle.aead.specs.Suites.{construction_of, text_limit_by}
+use Rattle.aead.specs.Refusals.{FitsIn}
 use Rattle.capi.proofs.siv.aeadkit_siv_update.Goals as goal
 
 pub returns-clause-holds : goal.returns-clause-holds
 returns-clause-holds c = λ s first text h.
     let same : c.in-Some.suite ≡ s.suite =
-    same_Some _ _ ((c.in-Some.ensures s.suite).1 (h.siv.by_gcm_siv, h.mark_is)) in (
-      c.update.result,
+    same_Some _ _ ((c.in-Some.ensures s.suite).1 (h.by_gcm_siv, h.mark_is)) in (
+      c.write.result,
       (
         c.outcome_number.ensures,
-        done_as c.update.result _ _ _ (λ d. (record { mark_is = h.mark_is; siv = d.0 }, d.1))
-            (c.update.ensures.answer s first text (sym same) h.siv),
+        MatchResult-weaker c.write.result
+            (c.write.ensures.answer s first text (c.keys-keys.ensures.keys s (sym same) h.keys) h.state (c.none-known.ensures _))
+            (λ _ d. (record { mark_is = h.mark_is; by_gcm_siv = h.by_gcm_siv; keys = h.keys; state = d.0 }, d.1))
+            (λ _ e. (e.0, omega (arith, length-append text c.args.piece.now, e.1))),
       ),
     )
 
@@ -26,10 +28,11 @@ returns-clause-not_begun c = λ none.
 pub returns-clause-status : goal.returns-clause-status
 returns-clause-status c = λ suite by is.
     let same : c.in-Some.suite ≡ suite = same_Some _ _ ((c.in-Some.ensures suite).1 (by, is)) in (
-      c.update.result,
+      c.write.result,
       (
         c.outcome_number.ensures,
-        subst (λ x. FitsIn SourceChanged c.update.result (siv_count c.args.siv.now.siv) (length c.args.piece.now)
-            (min (siv_first c.args.siv.now.siv) (text_limit x))) same c.update.ensures.fault,
+        subst (λ x. FitsIn SourceChanged c.write.result c.args.siv.now.state.pass.length (length c.args.piece.now)
+            (min c.args.siv.now.state.first (text_limit_by x))) (c.keys-keys.ensures.by ∙ ap construction_of same)
+            c.write.ensures.fault,
       ),
     )

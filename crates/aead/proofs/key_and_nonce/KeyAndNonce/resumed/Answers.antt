@@ -1,5 +1,6 @@
 use Rattle.std.proofs.Common.{[], sym, ◌∙◌, true≢false}
 use Rattle.aead.specs.KeyedPasses.{setting_of}
+use Rattle.aead.proofs.ByteMasks.{masks_by_bytes}
 use Rattle.aead.proofs.KeyedPasses.{has_keys_with}
 use Rattle.aead.proofs.Resumption.{has_key, holds_none}
 use Rattle.aead.proofs.key_and_nonce.KeyAndNonce.resumed.Goals as goal
@@ -24,3 +25,8 @@ pub returns-clause-key : goal.returns-clause-key
 returns-clause-key c =
     has_key c.args.state.now c.begin.new.state c.args.suite c.args.key.now c.args.nonce.now _ c.in-Ok.ensures.answer.1
     (c.has_hash_key_of.ensures.same.0 c.if-not-has_hash_key_of.false)
+
+pub returns-clause-bytes : goal.returns-clause-bytes
+returns-clause-bytes c = λ aad.
+    masks_by_bytes (setting_of c.args.suite c.args.key.now c.args.nonce.now aad) c.in-Ok.ensures.answer.0.lengths.key_fits
+    (λ i. (c.type_inv.key i).fits)

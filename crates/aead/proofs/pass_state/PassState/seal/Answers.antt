@@ -2,7 +2,7 @@ use Rattle.std.proofs.Common.{◌+◌, ◌≤◌, ◌++◌, [], ap, arith, lengt
 use Rattle.octets.specs.Masked.{masked}
 use Rattle.aead.specs.Suites.{text_limit, text_limit_by}
 use Rattle.aead.proofs.Opens.{same_mask}
-use Rattle.aead.proofs.KeyedPieces.{any_tag, text_length}
+use Rattle.aead.proofs.TakenIn.{any_tag, text_length}
 use Rattle.aead.proofs.pass_state.PassState.seal.Goals as goal
 
 pub returns-then-not-has_room-clause-answer : goal.returns-then-not-has_room-clause-answer

@@ -1,6 +1,6 @@
 use Rattle.aead.specs.Ciphers.{setting}
 use Rattle.aead.specs.AnyCiphers.{one_pass_keyed}
-use Rattle.aead.proofs.KeyedPieces.{empty_text}
+use Rattle.aead.proofs.TakenIn.{empty_text}
 use Rattle.aead.proofs.sealer.Sealer.new.Goals as goal
 
 pub returns : goal.returns

@@ -1,7 +1,7 @@
 use Rattle.std.proofs.Common.{refl, sym, subst, arith, ◌∙◌}
 use Rattle.aead.specs.declared.pass_state.Sum.{Sum}
 use Rattle.aead.specs.PassStates.{IsStart}
-use Rattle.aead.proofs.KeyedPieces.{taken_none, taken_length, taken_fits}
+use Rattle.aead.proofs.TakenIn.{taken_none, taken_length, taken_fits}
 use Rattle.aead.proofs.two_pass_state.TwoPassState.begin_second_pass.Goals as goal
 
 pub returns-clause-answer : goal.returns-clause-answer

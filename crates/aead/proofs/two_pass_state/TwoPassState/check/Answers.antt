@@ -1,7 +1,7 @@
 use Rattle.std.proofs.Common.{◌+◌, ◌≤◌, ◌++◌, List, ℕ, ap, sym, subst, arith, length, length-append}
 use Rattle.aead.specs.Suites.{text_limit, text_limit_by}
 use Rattle.aead.specs.Pieces.{HasTakenIn}
-use Rattle.aead.proofs.KeyedPieces.{taken_length}
+use Rattle.aead.proofs.TakenIn.{taken_length}
 use Rattle.aead.proofs.Passing.{small-append}
 use Rattle.aead.proofs.two_pass_state.TwoPassState.check.Goals as goal
 

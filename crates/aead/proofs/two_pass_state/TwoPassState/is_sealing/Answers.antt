@@ -2,7 +2,7 @@ use Rattle.std.proofs.Common.{◌≡◌, ◌∙◌, refl, sym, true≢false}
 use Rattle.aead.specs.Sealing.{mask_of, tag_of}
 use Rattle.aead.proofs.ByteMasks.{masked_small}
 use Rattle.aead.proofs.KeyedPasses.{tag_authenticated}
-use Rattle.aead.proofs.KeyedPieces.{taken_fits}
+use Rattle.aead.proofs.TakenIn.{taken_fits}
 use Rattle.aead.proofs.Opens.{unmasked, no_sealing, opened_as}
 use Rattle.aead.proofs.two_pass_state.TwoPassState.is_sealing.Goals as goal
 

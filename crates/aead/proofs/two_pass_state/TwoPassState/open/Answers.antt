@@ -7,7 +7,7 @@ use Rattle.aead.specs.Sealing.{mask_of}
 use Rattle.aead.specs.KeyedPasses.{KnowsCipherOf}
 use Rattle.aead.specs.Pieces.{HasTakenIn}
 use Rattle.aead.proofs.ByteMasks.{masked_small}
-use Rattle.aead.proofs.KeyedPieces.{taken_length}
+use Rattle.aead.proofs.TakenIn.{taken_length}
 use Rattle.aead.proofs.Passing.{small-append}
 use Rattle.aead.proofs.two_pass_state.TwoPassState.open.Goals as goal
 
