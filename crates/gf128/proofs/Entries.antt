@@ -15,7 +15,7 @@ use Rattle.octets.proofs.Ring.{coefficient_sum}
 use Rattle.octets.proofs.Horner.{residue_same}
 use Rattle.gf128.specs.Ghash.{ghash_modulus}
 use Rattle.gf128.specs.Code.Words.{of_bits, of_word, products, folded_wide, looked_up, table_at, entry}
-use Rattle.gf128.specs.Code.Words.{AreBytes, AreMultiples, IsReduced, IsWordProduct}
+use Rattle.gf128.specs.Code.Words.{placed, AreBytes, AreMultiples, IsReduced, IsWordProduct}
 use Rattle.gf128.proofs.BitParts.{own_residue, residue_parts, x_same, reduced_same, word_product_is}
 use Rattle.gf128.proofs.Folds.{wide_folded_at}
 use Rattle.gf128.proofs.WordLemmas.{multiple_of_zero}
@@ -23,7 +23,7 @@ use Rattle.gf128.proofs.FourProducts.{shortened, products_none, products_joined,
 use Rattle.gf128.proofs.LaneWords.{le_block}
 use Rattle.gf128.proofs.Rows.{row, row_block, le_row_xor, horner_list, horner_list_at}
 use Rattle.gf128.proofs.Rows.{rows_and_columns, byte_of_number}
-use Rattle.gf128.proofs.Placings.{placed, placed_sum, placed_low, placed_lt}
+use Rattle.gf128.proofs.Placings.{placed_sum, placed_low, placed_lt}
 
 -- the sum by Horner's rule of the products by single bytes has the residue of the products
 horner_products : (l : List (ℕ × ℕ)) (z : ℕ → ℕ) (q : ℕ) → ((p : ℕ) → p < q → IsReduced (products 8 (shortened (8 * p) l)) (z p))

@@ -14,7 +14,7 @@ use Rattle.octets.proofs.Xors.{length-xor_bytes, xor_bytes_at}
 use Rattle.gf128.proofs.WordLemmas.{to_be_block, reverse_block}
 
 -- a number below 256^k is the number that its k digits to base 256 spell
-le_digits : (k n : ℕ) → n < 256 ^ k → le (digits_l 256 k n) ≡ n
+pub le_digits : (k n : ℕ) → n < 256 ^ k → le (digits_l 256 k n) ≡ n
 unfolding le
 le_digits zero n small = let one : 256 ^ 0 ≡ 1 = pow-zero 256 in omega arith
 le_digits (suc k) n small =

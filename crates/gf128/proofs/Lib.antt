@@ -14,5 +14,8 @@ mod Moves
 mod Placings
 mod LookUps
 mod Pairs
+mod LanePairs
+mod PairedTables
 mod Entries
 mod Powers
+mod FourLooked

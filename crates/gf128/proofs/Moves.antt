@@ -61,7 +61,7 @@ two_lanes a b la lb =
     sym (ap₂ (λ (x y : ℕ). digits_l 256 16 (number_l (2 ^ 64) (x ∷ y ∷ []))) low high) ∙ le_halves n
 
 -- the number of bytes, as the vectors have it
-number_of : (bs : List ℕ) → number_l 256 bs ≡ le bs
+pub number_of : (bs : List ℕ) → number_l 256 bs ≡ le bs
 unfolding le
 number_of [] = refl
 number_of (b ∷ bs) = ap (λ (x : ℕ). b + 256 * x) (number_of bs)
@@ -79,7 +79,7 @@ changed_lanes f bs is small =
     ∙ two_lanes (f (n % 2 ^ 64)) (f (n / 2 ^ 64)) (small (n % 2 ^ 64) (omega arith)) (small (n / 2 ^ 64) (omega arith))
 
 -- a number below 2^64 that is shifted down is below 2^64
-shr_small : (c x : ℕ) → x < 2 ^ 64 → x / 2 ^ c < 2 ^ 64
+pub shr_small : (c x : ℕ) → x < 2 ^ 64 → x / 2 ^ c < 2 ^ 64
 shr_small c x l = let less : x / 2 ^ c ≤ x = shr_le x c in omega arith
 
 -- both lanes shifted up

@@ -12,16 +12,11 @@ use Rattle.octets.proofs.Sequence.{Sequence, sum_of, plus_comm}
 use Rattle.octets.proofs.Reversal.{raised, raised_low, raised_high, coefficient_below}
 use Rattle.octets.proofs.Horner.{residue_same}
 use Rattle.gf128.specs.Ghash.{ghash_modulus}
-use Rattle.gf128.specs.Code.Words.{of_bits, of_word, folded_wide, IsMoved}
+use Rattle.gf128.specs.Code.Words.{of_bits, of_word, folded_wide, placed, IsMoved}
 use Rattle.gf128.proofs.WordLemmas.{of_word_at, of_word_past}
 use Rattle.gf128.proofs.BitParts.{bit_above, bit_low, bit_high, of_bits_at, of_bits_past}
 use Rattle.gf128.proofs.Folds.{raised_sum, wide_folded_at}
 use Rattle.gf128.proofs.Rows.{horner_of, raised_none, raised_twice}
-
--- the first q words, word j moved up by j + 1 bytes
-unfoldable pub placed : (ℕ → ℕ) → ℕ → ℕ
-placed r zero = 0
-placed r (suc q) = bit_xor (placed r q) (r q * 2 ^ (8 * q + 8))
 
 -- no word is placed
 pub placed_none : (r : ℕ → ℕ) → placed r 0 ≡ 0

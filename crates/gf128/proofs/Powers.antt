@@ -5,12 +5,11 @@ use Rattle.std.specs.Int.{w128, to_be_bytes}
 use Rattle.std.proofs.lemmas.Nat.{xor_shr, xor_mod}
 use Rattle.octets.specs.Polynomial.{coefficient, sum, product, power, residue}
 use Rattle.gf128.specs.Ghash.{ghash_modulus}
-use Rattle.gf128.specs.Code.Words.{of_bits, of_word, products, folded_wide, IsReduced, IsWordProduct, IsFourProducts}
+use Rattle.gf128.specs.Code.Words.{placed, of_bits, of_word, products, folded_wide, IsReduced, IsWordProduct, IsFourProducts}
 use Rattle.gf128.proofs.WordLemmas.{word_product, g-to_be}
 use Rattle.gf128.proofs.BitParts.{reduced_sum}
 use Rattle.gf128.proofs.FourProducts.{last_product, four_products}
 use Rattle.gf128.proofs.Moves.{xor_assoc, xor_exchange, xor_shl}
-use Rattle.gf128.proofs.Placings.{placed}
 
 -- placing the XORs of words is XORing what is placed
 pub placed_xor : (r s : ℕ → ℕ) (q : ℕ) → placed (λ j. bit_xor (r j) (s j)) q ≡ bit_xor (placed r q) (placed s q)

@@ -1,5 +1,5 @@
 -- The sum after blocks, from one sum to the next.
-use Rattle.std.proofs.Common.{◌≡◌, ℕ, zero, suc, ◌+◌, ◌/◌, ◌%◌, ◌<◌, Bool, List, [], ◌++◌, length}
+use Rattle.std.proofs.Common.{◌≡◌, ℕ, zero, suc, ◌+◌, ◌*◌, ◌/◌, ◌%◌, ◌<◌, Bool, List, [], ◌++◌, length}
 use Rattle.std.proofs.Common.{get_or, bit_xor, refl, sym, ap, ap₂, ◌∙◌, arith}
 use mathlib.Core.Path.{fun_ext}
 use Rattle.std.proofs.lemmas.List.{length-append}
@@ -11,7 +11,7 @@ use Rattle.octets.proofs.Sequence.{sum_of}
 use Rattle.octets.proofs.Horner.{sum_is, times_same}
 use Rattle.octets.proofs.Blocks.{next_block, chunk_at}
 use Rattle.gf128.specs.Ghash.{ghash_modulus}
-use Rattle.gf128.specs.Code.Words.{of_word, IsWordProduct, IsFourProducts}
+use Rattle.gf128.specs.Code.Words.{of_word, AreFours, IsWordProduct, IsFourProducts}
 use Rattle.gf128.specs.Orders.{Order, reading, block_sum, sum_after, IsSumAfter}
 use Rattle.gf128.proofs.WordLemmas.{of_word_xor, word_product}
 use Rattle.gf128.proofs.FourProducts.{product_of, product_of_is, four_steps}
@@ -72,6 +72,21 @@ joined o k s t blocks more n j held own =
     follows o k t more (λ i. sum_after o k s blocks (n + i)) j (rw none (fun_ext held)) (λ i l.
     let next : n + suc i ≡ suc (n + i) = omega arith in
     rw (next, own i l) refl)
+
+-- the sum after some groups of four blocks and one group more
+pub fours_more : (o : Order) (k : List ℕ) (q : List Bool) (fours : List (List (List ℕ))) (blocks : List (List ℕ)) (n s a b c d z : ℕ)
+    → AreFours fours blocks → n < length fours
+    → let four = get_or fours n [] in of_word a ≡ reading o (get_or four 0 []) → of_word b ≡ reading o (get_or four 1 [])
+    → of_word c ≡ reading o (get_or four 2 []) → of_word d ≡ reading o (get_or four 3 [])
+    → Agree (of_word s) (sum_after o k q blocks (n * 4)) → IsFourProducts (bit_xor s a) b c d k z
+    → Agree (of_word z) (sum_after o k q blocks ((n + 1) * 4))
+fours_more o k q fours blocks n s a b c d z own l ea eb ec ed held is =
+    let four : List (List ℕ) = get_or fours n [] in
+    let next : n * 4 + 4 ≡ (n + 1) * 4 = omega arith in
+    let after : Agree (of_word z) (sum_after o k q blocks (n * 4 + 4)) = λ i.
+    four_after o k four s a b c d z ea eb ec ed is i
+    ∙ ap (λ f. f i) (joined o k q (of_word s) blocks four (n * 4) 4 held (λ j h. own n j l h)) in
+    rw next at after
 
 -- the sum after the blocks of a text, if s is the sum over the whole blocks before it
 pub absorbed : (o : Order) (k m text : List ℕ) (blocks : List (List ℕ)) (s z : ℕ) → length m % 16 ≡ 0

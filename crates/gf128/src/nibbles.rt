@@ -3,8 +3,9 @@
 
 ghost use Rattle.std.specs.Prelude.{◌≡◌, ℕ, ◌/◌, ◌%◌, ◌<◌, ◌++◌, length, slice_index, take, drop, bit_xor};
 ghost use Rattle.octets.specs.Bytes.{le};
-ghost use Rattle.gf128.specs.Code.Words.{looked_up};
+ghost use Rattle.gf128.specs.Code.Words.{looked_up, both};
 
+use crate::lane_pairs::LanePair;
 use crate::lanes::Lanes;
 use std::simd::prelude::*;
 use std::simd::{u8x16, u8x32};
@@ -47,38 +48,6 @@ impl Nibbles {
     }
 }
 
-// Two vectors of 16 bytes as one of 32.
-#[inline(always)]
-fn joined(first: u8x16, second: u8x16) -> u8x32
-    ensures { result ≡ first ++ second }
-{
-    first.shuffle(
-        second,
-        [
-            0, 1, 2, 3, 4, 5, 6, 7, 8, 9, 10, 11, 12, 13, 14, 15, 16, 17, 18, 19, 20, 21, 22, 23,
-            24, 25, 26, 27, 28, 29, 30, 31,
-        ],
-    )
-}
-
-// The first 16 bytes of a vector of 32.
-#[inline(always)]
-fn first_half(both: u8x32) -> u8x16
-    ensures { result ≡ take 16 both }
-{
-    both.swizzle([0, 1, 2, 3, 4, 5, 6, 7, 8, 9, 10, 11, 12, 13, 14, 15])
-}
-
-// The last 16 bytes of a vector of 32.
-#[inline(always)]
-fn second_half(both: u8x32) -> u8x16
-    ensures { result ≡ drop 16 both }
-{
-    both.swizzle([
-        16, 17, 18, 19, 20, 21, 22, 23, 24, 25, 26, 27, 28, 29, 30, 31,
-    ])
-}
-
 // The bytes of two words, and the high and the low four bits of each, in vectors of 32 bytes.
 #[derive(Drop, Clone, Copy)]
 pub(crate) struct NibblePairs {
@@ -99,34 +68,26 @@ impl NibblePairs {
         ensures first { result.first ≡ first }
         ensures second { result.second ≡ second }
     {
-        let both = joined(first.bytes, second.bytes);
+        let pair = LanePair::of(first, second);
         NibblePairs {
             first,
             second,
-            high: both >> u8x32::splat(4),
-            low: both & u8x32::splat(15),
+            high: pair.bytes >> u8x32::splat(4),
+            low: pair.bytes & u8x32::splat(15),
         }
     }
 
-    // Looks the bytes of each word up in a pair of tables of its own, as [`Nibbles::look`] does, and XORs what both give.
+    // Looks the bytes of each word up in a pair of tables of its own, as [`Nibbles::look`] does: those of the first word in the
+    // first halves of these tables, and those of the second word in the second halves.
     #[inline(always)]
-    pub(crate) fn look(
-        self,
-        first_high: Lanes,
-        first_low: Lanes,
-        second_high: Lanes,
-        second_low: Lanes,
-    ) -> Lanes
-        ensures { le result.bytes ≡ bit_xor (le (looked_up first_high.bytes first_low.bytes self.first.bytes))
-            (le (looked_up second_high.bytes second_low.bytes self.second.bytes)) }
+    pub(crate) fn look(self, high: LanePair, low: LanePair) -> LanePair
+        ensures { both result.bytes ≡ bit_xor (le (looked_up (take 16 high.bytes) (take 16 low.bytes) self.first.bytes))
+            (le (looked_up (drop 16 high.bytes) (drop 16 low.bytes) self.second.bytes)) }
     {
-        let high = joined(first_high.bytes, second_high.bytes);
-        let low = joined(first_low.bytes, second_low.bytes);
-        let by_high = high.swizzle_dyn_within::<16>(self.high);
-        let by_low = low.swizzle_dyn_within::<16>(self.low);
-        let both = by_high ^ by_low;
-        Lanes {
-            bytes: first_half(both) ^ second_half(both),
+        let by_high = high.bytes.swizzle_dyn_within::<16>(self.high);
+        let by_low = low.bytes.swizzle_dyn_within::<16>(self.low);
+        LanePair {
+            bytes: by_high ^ by_low,
         }
     }
 }

@@ -3,8 +3,9 @@
 
 ghost use Rattle.std.specs.Prelude.{◌≡◌, ◌+◌, ◌*◌, ◌^◌, ◌<◌, bit_xor};
 ghost use Rattle.octets.specs.Bytes.{le};
-ghost use Rattle.gf128.specs.Code.Words.{total, folded_wide};
+ghost use Rattle.gf128.specs.Code.Words.{total, both, folded_wide};
 
+use crate::lane_pairs::LanePair;
 use crate::lanes::Lanes;
 
 // A number of 256 bits: the XOR of a word, of one that is moved up by 64 places, and of one that is moved up by 128.
@@ -84,5 +85,85 @@ impl Placed {
         let high = below.xor(last);
         let fold = low.folded();
         high.xor(fold)
+    }
+}
+
+// Two such numbers at once, in the halves of vectors of 32 bytes. Their XOR is the sum.
+#[derive(Drop, Clone, Copy)]
+pub(crate) struct PlacedPairs {
+    low: LanePair,
+    middle: LanePair,
+    high: LanePair,
+}
+
+impl PlacedPairs {
+    // Twice 0.
+    #[inline(always)]
+    pub(crate) fn none() -> PlacedPairs
+        ensures { total (both result.low.bytes) (both result.middle.bytes) (both result.high.bytes) ≡ 0 }
+    {
+        let zero = LanePair::zero();
+        PlacedPairs {
+            low: zero,
+            middle: zero,
+            high: zero,
+        }
+    }
+
+    // XORs in two words that are moved up by `count` places, fewer than 64.
+    #[inline(always)]
+    pub(crate) fn low(self, words: LanePair, count: u64) -> PlacedPairs
+        requires some { 0 < count }
+        requires within { count < 64 }
+        ensures { total (both result.low.bytes) (both result.middle.bytes) (both result.high.bytes)
+            ≡ bit_xor (total (both self.low.bytes) (both self.middle.bytes) (both self.high.bytes)) (both words.bytes * 2 ^ count) }
+    {
+        PlacedPairs {
+            low: self.low.xor(words.up(count)),
+            middle: self.middle.xor(words.down(64 - count)),
+            high: self.high,
+        }
+    }
+
+    // XORs in two words that are moved up by 64 places.
+    #[inline(always)]
+    pub(crate) fn middle(self, words: LanePair) -> PlacedPairs
+        ensures { total (both result.low.bytes) (both result.middle.bytes) (both result.high.bytes)
+            ≡ bit_xor (total (both self.low.bytes) (both self.middle.bytes) (both self.high.bytes)) (both words.bytes * 2 ^ 64) }
+    {
+        PlacedPairs {
+            low: self.low,
+            middle: self.middle.xor(words),
+            high: self.high,
+        }
+    }
+
+    // XORs in two words that are moved up by 64 + `count` places, fewer than 128.
+    #[inline(always)]
+    pub(crate) fn high(self, words: LanePair, count: u64) -> PlacedPairs
+        requires some { 0 < count }
+        requires within { count < 64 }
+        ensures { total (both result.low.bytes) (both result.middle.bytes) (both result.high.bytes)
+            ≡ bit_xor (total (both self.low.bytes) (both self.middle.bytes) (both self.high.bytes)) (both words.bytes * 2 ^ (64 + count)) }
+    {
+        PlacedPairs {
+            low: self.low,
+            middle: self.middle.xor(words.up(count)),
+            high: self.high.xor(words.down(64 - count)),
+        }
+    }
+
+    // XORs in two words that are moved up by 128 places, and reduces the XOR of the two numbers.
+    #[inline(always)]
+    pub(crate) fn reduce_with(self, words: LanePair) -> Lanes
+        ensures { le result.bytes ≡ folded_wide (bit_xor (total (both self.low.bytes) (both self.middle.bytes) (both self.high.bytes))
+            (both words.bytes * 2 ^ 128)) }
+    {
+        let sum = Placed {
+            low: self.low.sum(),
+            middle: self.middle.sum(),
+            high: self.high.sum(),
+        };
+        sum.reduce_with(words.sum())
     }
 }

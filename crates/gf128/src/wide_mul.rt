@@ -1,20 +1,25 @@
 //! Four products in GHASH's field (SP 800-38D, 6.3) in one sum, by tables of multiples of the key's first four powers.
 
-ghost use Rattle.std.specs.Prelude.{◌≡◌, ◌<◌};
+ghost use Rattle.std.specs.Prelude.{◌≡◌, ℕ, ◌*◌, ◌<◌, List, length};
 ghost use Rattle.std.specs.Int.{w128, to_be_bytes};
 ghost use Rattle.octets.specs.Bytes.{le};
 ghost use Rattle.octets.specs.Polynomial.{power, Agree};
-ghost use Rattle.gf128.specs.Code.Words.{of_word, looked_word, looked_four, entry, AreMultiples, IsReduced, IsFourProducts};
+ghost use Rattle.gf128.specs.Code.Words.{of_word, looked_word, looked_four, entry, AreMultiples, AreFours, IsReduced, IsFourProducts};
+ghost use Rattle.gf128.specs.Code.PlainMultiples.{ArePaired};
 ghost use Rattle.gf128.specs.Orders.{sum_after, IsSumAfter};
 
 use crate::hash_order::HashOrder;
 use crate::lanes::Lanes;
-use crate::nibbles::{NibblePairs, Nibbles};
+use crate::nibbles::Nibbles;
+use crate::paired::{PairTables, times_pairs};
 use crate::placed::Placed;
 use crate::table_mul::{TableMul, times_few};
 use crate::tables::PlainMultiples;
 use crate::{Keyed128, Multiply};
 use octets::{Block, WIDE};
+
+// From this many runs of four blocks on, it is faster to copy the tables for vectors of 32 bytes.
+const PAIRS_PAY: usize = 3;
 
 /// The multiplier that holds 32 multiples of each of the key's first four powers, 2 KiB, and takes four blocks at a time. It
 /// is for a key that hashes several long texts; for one long text, [`TableMul`] makes the tables where they are used.
@@ -31,19 +36,13 @@ pub struct WideMul {
     ghost fourth_power: { IsReduced (power (of_word first.word) 4) fourth.word },
 }
 
-// Four words as the indices of look-ups, one by one and in pairs. Each build uses one of these, and the other is not computed.
+// Four words as the indices of look-ups.
 #[derive(Drop, Clone, Copy)]
 struct FourWords {
     fourth: Nibbles,
     third: Nibbles,
     second: Nibbles,
     first: Nibbles,
-    upper: NibblePairs,
-    lower: NibblePairs,
-    ghost upper_first: { upper.first ≡ fourth.word },
-    ghost upper_second: { upper.second ≡ third.word },
-    ghost lower_first: { lower.first ≡ second.word },
-    ghost lower_second: { lower.second ≡ first.word },
 }
 
 impl FourWords {
@@ -60,17 +59,14 @@ impl FourWords {
             third: Nibbles::of(b),
             second: Nibbles::of(c),
             first: Nibbles::of(d),
-            upper: NibblePairs::of(a, b),
-            lower: NibblePairs::of(c, d),
         }
     }
 }
 
 impl WideMul {
-    // XORs what the tables of byte `j` of the multiples give for four words, each with the tables of its own power: one word
-    // after the other.
+    // XORs what the tables of byte `j` of the multiples give for four words, each with the tables of its own power.
     #[inline(always)]
-    fn part_by_words(&self, words: FourWords, j: usize) -> Lanes
+    fn part(&self, words: FourWords, j: usize) -> Lanes
         requires { j < 16 }
         ensures { let s = self.now in le result.bytes
             ≡ looked_four (looked_word s.fourth.multiples.high s.fourth.multiples.low words.fourth.word.bytes)
@@ -85,54 +81,6 @@ impl WideMul {
         let high = fourth.xor(third);
         let low = second.xor(first);
         high.xor(low)
-    }
-
-    // The same by two words at a time, in vectors of 32 bytes.
-    #[inline(always)]
-    fn part_by_pairs(&self, words: FourWords, j: usize) -> Lanes
-        requires { j < 16 }
-        ensures { let s = self.now in le result.bytes
-            ≡ looked_four (looked_word s.fourth.multiples.high s.fourth.multiples.low words.fourth.word.bytes)
-            (looked_word s.third.multiples.high s.third.multiples.low words.third.word.bytes)
-            (looked_word s.second.multiples.high s.second.multiples.low words.second.word.bytes)
-            (looked_word s.first.multiples.high s.first.multiples.low words.first.word.bytes) j }
-    {
-        let fourth = &self.fourth.multiples;
-        let third = &self.third.multiples;
-        let second = &self.second.multiples;
-        let first = &self.first.multiples;
-        let fourth_high = fourth.high_table(j);
-        let fourth_low = fourth.low_table(j);
-        let third_high = third.high_table(j);
-        let third_low = third.low_table(j);
-        let second_high = second.high_table(j);
-        let second_low = second.low_table(j);
-        let first_high = first.high_table(j);
-        let first_low = first.low_table(j);
-        let upper = words
-            .upper
-            .look(fourth_high, fourth_low, third_high, third_low);
-        let lower = words
-            .lower
-            .look(second_high, second_low, first_high, first_low);
-        upper.xor(lower)
-    }
-
-    // The form that the processor's vectors allow.
-    #[inline(always)]
-    fn part(&self, words: FourWords, j: usize) -> Lanes
-        requires { j < 16 }
-        ensures { let s = self.now in le result.bytes
-            ≡ looked_four (looked_word s.fourth.multiples.high s.fourth.multiples.low words.fourth.word.bytes)
-            (looked_word s.third.multiples.high s.third.multiples.low words.third.word.bytes)
-            (looked_word s.second.multiples.high s.second.multiples.low words.second.word.bytes)
-            (looked_word s.first.multiples.high s.first.multiples.low words.first.word.bytes) j }
-    {
-        if WIDE {
-            self.part_by_pairs(words, j)
-        } else {
-            self.part_by_words(words, j)
-        }
     }
 
     // The sum of four words times four powers of the key, the fourth power first.
@@ -175,18 +123,78 @@ impl WideMul {
         self.fourth.set_word(fourth);
     }
 
-    // The sum after four blocks.
+    // The same, by tables in pairs.
     #[inline(always)]
-    fn times_blocks<O: HashOrder>(&self, sum: Lanes, blocks: &[[u8; 16]; 4]) -> Lanes
-        ensures { Agree (of_word (le result.bytes))
-            (sum_after O.order (to_be_bytes w128 self.now.first.word) (of_word (le sum.bytes)) blocks.now 4) }
+    fn times_lanes_by_pairs(
+        &self,
+        upper: &PairTables,
+        lower: &PairTables,
+        a: Lanes,
+        b: Lanes,
+        c: Lanes,
+        d: Lanes,
+    ) -> Lanes
+        requires upper { ArePaired upper.now.high upper.now.low self.now.fourth.multiples self.now.third.multiples }
+        requires lower { ArePaired lower.now.high lower.now.low self.now.second.multiples self.now.first.multiples }
+        ensures { IsFourProducts (le a.bytes) (le b.bytes) (le c.bytes) (le d.bytes) (to_be_bytes w128 self.now.first.word) (le result.bytes) }
     {
-        let first = Lanes::of_bytes(O::word_bytes(&blocks[0]));
-        let a = sum.xor(first);
-        let b = Lanes::of_bytes(O::word_bytes(&blocks[1]));
-        let c = Lanes::of_bytes(O::word_bytes(&blocks[2]));
-        let d = Lanes::of_bytes(O::word_bytes(&blocks[3]));
-        self.times_lanes(a, b, c, d)
+        self.first.multiples.bytes_known();
+        self.second.multiples.bytes_known();
+        self.third.multiples.bytes_known();
+        self.fourth.multiples.bytes_known();
+        times_pairs(upper, lower, a, b, c, d)
+    }
+
+    // The sum after blocks that come in fours.
+    #[inline(always)]
+    fn times_fours<O: HashOrder>(&self, sum: u128, fours: &[[[u8; 16]; 4]]) -> u128
+        ensures { (blocks : List (List ℕ)) → AreFours fours.now blocks → Agree (of_word result)
+            (sum_after O.order (to_be_bytes w128 self.now.first.word) (of_word sum) blocks (length fours.now * 4)) }
+    {
+        // The sum stays a vector from one run of four blocks to the next.
+        let mut total = Lanes::of(sum);
+        'fours: for four in fours {
+            let first = Lanes::of_bytes(O::word_bytes(&four[0]));
+            let a = total.xor(first);
+            let b = Lanes::of_bytes(O::word_bytes(&four[1]));
+            let c = Lanes::of_bytes(O::word_bytes(&four[2]));
+            let d = Lanes::of_bytes(O::word_bytes(&four[3]));
+            total = self.times_lanes(a, b, c, d);
+        }
+        total.word()
+    }
+
+    // The same in vectors of 32 bytes. The tables are copied once, so that each look-up loads two tables at once.
+    #[inline(always)]
+    fn times_fours_by_pairs<O: HashOrder>(&self, sum: u128, fours: &[[[u8; 16]; 4]]) -> u128
+        ensures { (blocks : List (List ℕ)) → AreFours fours.now blocks → Agree (of_word result)
+            (sum_after O.order (to_be_bytes w128 self.now.first.word) (of_word sum) blocks (length fours.now * 4)) }
+    {
+        let upper = PairTables::of(&self.fourth.multiples, &self.third.multiples);
+        let lower = PairTables::of(&self.second.multiples, &self.first.multiples);
+        let mut total = Lanes::of(sum);
+        'fours: for run in fours {
+            let first = Lanes::of_bytes(O::word_bytes(&run[0]));
+            let a = total.xor(first);
+            let b = Lanes::of_bytes(O::word_bytes(&run[1]));
+            let c = Lanes::of_bytes(O::word_bytes(&run[2]));
+            let d = Lanes::of_bytes(O::word_bytes(&run[3]));
+            total = self.times_lanes_by_pairs(&upper, &lower, a, b, c, d);
+        }
+        total.word()
+    }
+
+    // The form that the processor's vectors allow.
+    #[inline(always)]
+    fn times_runs<O: HashOrder>(&self, sum: u128, fours: &[[[u8; 16]; 4]]) -> u128
+        ensures { (blocks : List (List ℕ)) → AreFours fours.now blocks → Agree (of_word result)
+            (sum_after O.order (to_be_bytes w128 self.now.first.word) (of_word sum) blocks (length fours.now * 4)) }
+    {
+        if WIDE && fours.len() >= PAIRS_PAY {
+            self.times_fours_by_pairs::<O>(sum, fours)
+        } else {
+            self.times_fours::<O>(sum, fours)
+        }
     }
 }
 
@@ -204,12 +212,7 @@ impl Multiply for WideMul {
     #[inline(always)]
     fn times_all<O: HashOrder>(&self, sum: u128, blocks: &[[u8; 16]]) -> u128 {
         let (fours, rest) = blocks.as_chunks::<4>();
-        // The sum stays a vector from one run of four blocks to the next.
-        let mut total = Lanes::of(sum);
-        'fours: for four in fours {
-            total = self.times_blocks::<O>(total, four);
-        }
-        let taken = total.word();
+        let taken = self.times_runs::<O>(sum, fours);
         times_few::<O>(&self.first.multiples, taken, rest)
     }
 }

@@ -1,6 +1,6 @@
 -- Words of 128 bits as polynomials.
-use Rattle.std.specs.Prelude.{ℕ, ◌+◌, ◌-◌, ◌*◌, ◌/◌, ◌%◌, ◌^◌, Bool, false, List, [], ◌∷◌, ◌++◌}
-use Rattle.std.specs.Prelude.{◌<◌, get_or, slice_index, map, replicate, bit_xor}
+use Rattle.std.specs.Prelude.{◌≡◌, ℕ, zero, suc, ◌+◌, ◌-◌, ◌*◌, ◌/◌, ◌%◌, ◌^◌, Bool, false, List, [], ◌∷◌, ◌++◌}
+use Rattle.std.specs.Prelude.{◌<◌, length, take, drop, get_or, slice_index, map, replicate, bit_xor}
 use Rattle.std.specs.List.{range_with_len}
 use Rattle.octets.specs.Bytes.{le}
 use Rattle.octets.specs.Bits.{bit, g}
@@ -75,6 +75,11 @@ folded_wide n =
     let f : ℕ = n % 2 ^ 128 in
     bit_xor (n / 2 ^ 128) (bit_xor f (bit_xor (f / 2 ^ 1) (bit_xor (f / 2 ^ 2) (f / 2 ^ 7))))
 
+-- the first q words, word j moved up by j + 1 bytes
+unfoldable pub placed : (ℕ → ℕ) → ℕ → ℕ
+placed r zero = 0
+placed r (suc q) = bit_xor (placed r q) (r q * 2 ^ (8 * q + 8))
+
 -- what a pair of tables of sixteen bytes gives for the high and the low four bits of each of sixteen bytes
 unfoldable pub looked_up : List ℕ → List ℕ → List ℕ → List ℕ
 looked_up high low x =
@@ -103,3 +108,23 @@ looked_word high low x j = le (looked_up (table_at high j) (table_at low j) x)
 -- the sum of the words that the tables at index j of four multipliers give, each for bytes of its own
 abbrev pub looked_four : (ℕ → ℕ) → (ℕ → ℕ) → (ℕ → ℕ) → (ℕ → ℕ) → ℕ → ℕ
 looked_four p q r s j = bit_xor (bit_xor (p j) (q j)) (bit_xor (r j) (s j))
+
+-- 32 bytes
+abbrev pub IsPair : List ℕ → Type 0
+IsPair bs = (length bs ≡ 32) × ((i : ℕ) → get_or bs i 0 < 256)
+
+-- the XOR of the two words that 32 bytes spell
+abbrev pub both : List ℕ → ℕ
+both bs = bit_xor (le (take 16 bs)) (le (drop 16 bs))
+
+-- the first half of each table of 32 bytes, and the second half
+abbrev pub first_tables : List (List ℕ) → List (List ℕ)
+first_tables tables = map (take 16) tables
+
+abbrev pub second_tables : List (List ℕ) → List (List ℕ)
+second_tables tables = map (drop 16) tables
+
+-- the blocks in groups of four are these blocks in the same order
+abbrev pub AreFours : List (List (List ℕ)) → List (List ℕ) → Type 0
+AreFours fours blocks =
+    (n j : ℕ) → n < length fours → j < 4 → get_or (get_or fours n []) j [] ≡ get_or blocks (n * 4 + j) []

@@ -1,8 +1,8 @@
 use Rattle.std.proofs.Common.{◌≡◌, ℕ, List, ◌+◌, ◌*◌, ◌∙◌, ap, sym, subst, arith, refl}
 use Rattle.std.specs.Int.{w128, to_be_bytes}
 use Rattle.octets.specs.Bytes.{le}
-use Rattle.gf128.specs.Code.Words.{looked_word, folded_wide, IsWordProduct}
-use Rattle.gf128.proofs.Placings.{placed, placed_none, placed_more}
+use Rattle.gf128.specs.Code.Words.{placed, looked_word, folded_wide, IsWordProduct}
+use Rattle.gf128.proofs.Placings.{placed_none, placed_more}
 use Rattle.gf128.proofs.Entries.{looked_product}
 use Rattle.gf128.proofs.tables.PlainMultiples.times_lanes.Goals as goal
 

@@ -1,7 +1,6 @@
 use Rattle.std.proofs.Common.{◌≡◌, ◌+◌}
 use Rattle.octets.specs.Bytes.{le}
-use Rattle.gf128.specs.Code.Words.{total, looked_word}
-use Rattle.gf128.proofs.Placings.{placed}
+use Rattle.gf128.specs.Code.Words.{placed, total, looked_word}
 use Rattle.gf128.proofs.tables.PlainMultiples.times_lanes.Given as goal
 
 abbrev pub invariant-low : goal.invariant-low

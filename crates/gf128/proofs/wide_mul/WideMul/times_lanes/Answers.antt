@@ -1,10 +1,9 @@
-use Rattle.std.proofs.Common.{◌≡◌, ℕ, ◌+◌, ◌*◌, ◌∙◌, ap, sym, subst, bit_xor, arith, refl}
+use Rattle.std.proofs.Common.{◌≡◌, ℕ, ◌+◌, ◌*◌, ◌∙◌, ap, sym, subst, arith, refl}
 use Rattle.std.specs.Int.{w128, to_be_bytes}
 use Rattle.octets.specs.Bytes.{le}
-use Rattle.gf128.specs.Code.Words.{looked_word, looked_four, folded_wide, IsFourProducts}
-use Rattle.gf128.proofs.Placings.{placed, placed_none, placed_more}
-use Rattle.gf128.proofs.Entries.{looked_product}
-use Rattle.gf128.proofs.Powers.{four_placed, four_powers}
+use Rattle.gf128.specs.Code.Words.{placed, looked_word, looked_four, folded_wide, IsFourProducts}
+use Rattle.gf128.proofs.Placings.{placed_none, placed_more}
+use Rattle.gf128.proofs.FourLooked.{four_looked}
 use Rattle.gf128.proofs.wide_mul.WideMul.times_lanes.Goals as goal
 
 pub low-init : goal.low-init
@@ -54,31 +53,23 @@ high-preserved c =
 pub returns : goal.returns
 returns c =
     let s = c.args.self.now in
-    let p : ℕ → ℕ = looked_word s.fourth.multiples.high s.fourth.multiples.low c.of-words.result.fourth.word.bytes in
-    let q : ℕ → ℕ = looked_word s.third.multiples.high s.third.multiples.low c.of-words.result.third.word.bytes in
-    let r : ℕ → ℕ = looked_word s.second.multiples.high s.second.multiples.low c.of-words.result.second.word.bytes in
-    let t : ℕ → ℕ = looked_word s.first.multiples.high s.first.multiples.low c.of-words.result.first.word.bytes in
-    let words : ℕ → ℕ = looked_four p q r t in
-    let h : ℕ = s.first.word in
-    let product : (ℕ → ℕ) → ℕ = λ (f : ℕ → ℕ). folded_wide (placed f 16) in
+    let a = c.of-words.result.fourth.word in
+    let b = c.of-words.result.third.word in
+    let y = c.of-words.result.second.word in
+    let z = c.of-words.result.first.word in
+    let words : ℕ → ℕ = looked_four (looked_word s.fourth.multiples.high s.fourth.multiples.low a.bytes)
+    (looked_word s.third.multiples.high s.third.multiples.low b.bytes) (looked_word s.second.multiples.high s.second.multiples.low y.bytes)
+    (looked_word s.first.multiples.high s.first.multiples.low z.bytes) in
     let end : c.high.j + 8 ≡ 15 = omega (arith, c.high-test.false, c.high.auto.j-end) in
     let number = placed_more words 15 16 (le c.part-last.result.bytes) _ _ 128 (c.high.invariant ∙ ap (placed words) end)
     c.part-last.ensures refl refl refl in
-    let all : le c.reduce_with.result.bytes ≡ bit_xor (bit_xor (product p) (product q)) (bit_xor (product r) (product t)) =
-    c.reduce_with.ensures ∙ ap folded_wide number ∙ four_placed p q r t in
-    let is : IsFourProducts (le c.of-words.result.fourth.word.bytes) (le c.of-words.result.third.word.bytes) (le c.of-words.result.second.word.bytes)
-    (le c.of-words.result.first.word.bytes) (to_be_bytes w128 h) (bit_xor (bit_xor (product p) (product q)) (bit_xor (product r) (product t))) =
-    four_powers (le c.of-words.result.fourth.word.bytes) (le c.of-words.result.third.word.bytes) (le c.of-words.result.second.word.bytes)
-    (le c.of-words.result.first.word.bytes) h s.second.word s.third.word s.fourth.word (product p) (product q) (product r) (product t)
-    s.second_power s.third_power s.fourth_power
-    (looked_product s.fourth.word s.fourth.multiples.high s.fourth.multiples.low c.of-words.result.fourth.word.bytes c.of-words.result.fourth.word.is_block
-    c.bytes_known-4.ensures.high c.bytes_known-4.ensures.low s.fourth.filled)
-    (looked_product s.third.word s.third.multiples.high s.third.multiples.low c.of-words.result.third.word.bytes c.of-words.result.third.word.is_block
-    c.bytes_known-3.ensures.high c.bytes_known-3.ensures.low s.third.filled)
-    (looked_product s.second.word s.second.multiples.high s.second.multiples.low c.of-words.result.second.word.bytes c.of-words.result.second.word.is_block
-    c.bytes_known-2.ensures.high c.bytes_known-2.ensures.low s.second.filled)
-    (looked_product s.first.word s.first.multiples.high s.first.multiples.low c.of-words.result.first.word.bytes c.of-words.result.first.word.is_block
-    c.bytes_known.ensures.high c.bytes_known.ensures.low s.first.filled) in
+    let is = four_looked s.first.word s.second.word s.third.word s.fourth.word s.first.multiples.high s.first.multiples.low
+    s.second.multiples.high s.second.multiples.low s.third.multiples.high s.third.multiples.low s.fourth.multiples.high s.fourth.multiples.low
+    a.bytes b.bytes y.bytes z.bytes a.is_block b.is_block y.is_block z.is_block s.second_power s.third_power s.fourth_power
+    (record { high_bytes = c.bytes_known.ensures.high; low_bytes = c.bytes_known.ensures.low; filled = s.first.filled })
+    (record { high_bytes = c.bytes_known-2.ensures.high; low_bytes = c.bytes_known-2.ensures.low; filled = s.second.filled })
+    (record { high_bytes = c.bytes_known-3.ensures.high; low_bytes = c.bytes_known-3.ensures.low; filled = s.third.filled })
+    (record { high_bytes = c.bytes_known-4.ensures.high; low_bytes = c.bytes_known-4.ensures.low; filled = s.fourth.filled }) in
     rw (c.of-words.ensures.fourth, c.of-words.ensures.third, c.of-words.ensures.second, c.of-words.ensures.first) at
-    (subst (IsFourProducts (le c.of-words.result.fourth.word.bytes) (le c.of-words.result.third.word.bytes) (le c.of-words.result.second.word.bytes)
-    (le c.of-words.result.first.word.bytes) (to_be_bytes w128 h)) (sym all) is)
+    (subst (IsFourProducts (le a.bytes) (le b.bytes) (le y.bytes) (le z.bytes) (to_be_bytes w128 s.first.word))
+    (sym (c.reduce_with.ensures ∙ ap folded_wide number)) is)

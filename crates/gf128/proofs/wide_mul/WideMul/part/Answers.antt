@@ -1,6 +1,6 @@
 use Rattle.std.proofs.Common.{◌∙◌, ap, ap₂, bit_xor}
 use Rattle.octets.specs.Bytes.{le}
-use Rattle.gf128.proofs.wide_mul.WideMul.part_by_words.Goals as goal
+use Rattle.gf128.proofs.wide_mul.WideMul.part.Goals as goal
 
 pub returns : goal.returns
 returns c =

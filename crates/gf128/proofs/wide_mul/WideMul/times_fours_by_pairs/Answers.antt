@@ -1,0 +1,38 @@
+use Rattle.std.proofs.Common.{◌≡◌, ℕ, ◌*◌, ◌∙◌, List, [], length, get_or, ap, arith, bit_xor}
+use Rattle.std.specs.Int.{w128, to_be_bytes}
+use Rattle.octets.specs.Bytes.{le}
+use Rattle.octets.specs.Polynomial.{coefficient}
+use Rattle.gf128.specs.Code.Words.{of_word, IsFourProducts}
+use Rattle.gf128.specs.Orders.{sum_after}
+use Rattle.gf128.proofs.SumsAfter.{fours_more}
+use Rattle.gf128.proofs.wide_mul.WideMul.times_fours_by_pairs.Goals as goal
+
+pub fours-init : goal.fours-init
+unfolding sum_after
+fours-init g c = λ blocks own i. ap (λ (n : ℕ). coefficient (of_word n) i) c.of-total.ensures
+
+pub times_lanes_by_pairs-total-requires-clause-upper : goal.times_lanes_by_pairs-total-requires-clause-upper
+times_lanes_by_pairs-total-requires-clause-upper g c = c.of-upper.ensures
+
+pub times_lanes_by_pairs-total-requires-clause-lower : goal.times_lanes_by_pairs-total-requires-clause-lower
+times_lanes_by_pairs-total-requires-clause-lower g c = c.of-lower.ensures
+
+pub fours-preserved : goal.fours-preserved
+fours-preserved g c = λ blocks own.
+    let k : List ℕ = to_be_bytes w128 c.args.self.now.first.word in
+    let four : List (List ℕ) = get_or c.args.fours.now c.fours.run-index [] in
+    let s : ℕ = le c.fours.total.bytes in
+    let p : ℕ = le c.of_bytes-first.result.bytes in
+    let is : IsFourProducts (bit_xor s p) (le c.of_bytes-b.result.bytes) (le c.of_bytes-c.result.bytes) (le c.of_bytes-d.result.bytes) k
+    (le c.times_lanes_by_pairs-total.result.bytes) = rw c.xor-a.ensures at c.times_lanes_by_pairs-total.ensures in
+    fours_more g.O.HashOrder.order k (of_word c.args.sum) c.args.fours.now blocks c.fours.run-index s p (le c.of_bytes-b.result.bytes)
+    (le c.of_bytes-c.result.bytes) (le c.of_bytes-d.result.bytes) (le c.times_lanes_by_pairs-total.result.bytes) own c.fours-test.true
+    (ap (λ w. of_word (le w)) c.of_bytes-first.ensures ∙ c.word_bytes.ensures)
+    (ap (λ w. of_word (le w)) c.of_bytes-b.ensures ∙ c.word_bytes-in-fours.ensures)
+    (ap (λ w. of_word (le w)) c.of_bytes-c.ensures ∙ c.word_bytes-in-fours-2.ensures)
+    (ap (λ w. of_word (le w)) c.of_bytes-d.ensures ∙ c.word_bytes-in-fours-3.ensures) (c.fours.invariant blocks own) is
+
+pub returns : goal.returns
+returns g c = λ blocks own.
+    let end : c.fours.run-index ≡ length c.args.fours.now = omega (arith, c.fours-test.false, c.fours.auto.run-index-end) in
+    rw c.word.ensures (rw end at (c.fours.invariant blocks own))

@@ -1,0 +1,11 @@
+use Rattle.std.proofs.Common.{List, ℕ, ◌*◌}
+use Rattle.std.specs.Int.{w128, to_be_bytes}
+use Rattle.octets.specs.Bytes.{le}
+use Rattle.octets.specs.Polynomial.{Agree}
+use Rattle.gf128.specs.Code.Words.{of_word, AreFours}
+use Rattle.gf128.specs.Orders.{sum_after}
+use Rattle.gf128.proofs.wide_mul.WideMul.times_fours_by_pairs.Given as goal
+
+abbrev pub invariant-fours : goal.invariant-fours
+invariant-fours g l = (blocks : List (List ℕ)) → AreFours l.fours blocks → Agree (of_word (le l.total.bytes))
+    (sum_after g.O.HashOrder.order (to_be_bytes w128 l.self.first.word) (of_word l.sum) blocks (l.run-index * 4))

@@ -1,0 +1,105 @@
+//! The tables of multiples of two words side by side, so that a vector of 32 bytes looks the bytes of two words up at once.
+
+ghost use Rattle.std.specs.Prelude.{◌≡◌, ◌<◌, bit_xor};
+ghost use Rattle.gf128.specs.Code.Words.{both, first_tables, second_tables, looked_word, looked_four, folded_wide, placed};
+ghost use Rattle.gf128.specs.Code.PlainMultiples.{ArePaired};
+ghost use Rattle.octets.specs.Bytes.{le};
+
+use crate::lane_pairs::LanePair;
+use crate::lanes::Lanes;
+use crate::nibbles::NibblePairs;
+use crate::placed::PlacedPairs;
+use crate::tables::PlainMultiples;
+
+// The tables of two words: those of the first one are the first halves of the tables of 32 bytes.
+#[derive(Drop)]
+pub(crate) struct PairTables {
+    high: [[u8; 32]; 16],
+    low: [[u8; 32]; 16],
+}
+
+impl PairTables {
+    // The tables of two words from those of each.
+    #[inline(always)]
+    pub(crate) fn of(first: &PlainMultiples, second: &PlainMultiples) -> PairTables
+        ensures { ArePaired result.high result.low first.now second.now }
+    {
+        let mut high = [[0; 32]; 16];
+        let mut low = [[0; 32]; 16];
+        'tables: for j in 0..16usize {
+            let high_pair = LanePair::of(first.high_table(j), second.high_table(j));
+            let low_pair = LanePair::of(first.low_table(j), second.low_table(j));
+            high[j] = high_pair.bytes.to_array();
+            low[j] = low_pair.bytes.to_array();
+        }
+        PairTables { high, low }
+    }
+
+    // What the tables of byte `j` of the multiples give for the bytes of two words.
+    #[inline(always)]
+    fn part(&self, at: NibblePairs, j: usize) -> LanePair
+        requires { j < 16 }
+        ensures { let s = self.now in both result.bytes
+            ≡ bit_xor (looked_word (first_tables s.high) (first_tables s.low) at.first.bytes j)
+            (looked_word (second_tables s.high) (second_tables s.low) at.second.bytes j) }
+    {
+        let high = LanePair::of_bytes(self.high[j]);
+        let low = LanePair::of_bytes(self.low[j]);
+        at.look(high, low)
+    }
+}
+
+// What the tables of byte `j` of two pairs give for the bytes of four words.
+#[inline(always)]
+fn part_of_four(
+    upper: &PairTables,
+    lower: &PairTables,
+    ab: NibblePairs,
+    cd: NibblePairs,
+    j: usize,
+) -> LanePair
+    requires { j < 16 }
+    ensures { let u = upper.now in let l = lower.now in both result.bytes
+        ≡ looked_four (looked_word (first_tables u.high) (first_tables u.low) ab.first.bytes)
+        (looked_word (second_tables u.high) (second_tables u.low) ab.second.bytes)
+        (looked_word (first_tables l.high) (first_tables l.low) cd.first.bytes)
+        (looked_word (second_tables l.high) (second_tables l.low) cd.second.bytes) j }
+{
+    let high = upper.part(ab, j);
+    let low = lower.part(cd, j);
+    high.xor(low)
+}
+
+// The sum of the products of four words, each with the word whose multiples a half of the tables holds.
+#[inline(always)]
+pub(crate) fn times_pairs(
+    upper: &PairTables,
+    lower: &PairTables,
+    a: Lanes,
+    b: Lanes,
+    c: Lanes,
+    d: Lanes,
+) -> Lanes
+    ensures { let u = upper.now in let l = lower.now in le result.bytes
+        ≡ folded_wide (placed (looked_four (looked_word (first_tables u.high) (first_tables u.low) a.bytes)
+        (looked_word (second_tables u.high) (second_tables u.low) b.bytes)
+        (looked_word (first_tables l.high) (first_tables l.low) c.bytes)
+        (looked_word (second_tables l.high) (second_tables l.low) d.bytes)) 16) }
+{
+    let ab = NibblePairs::of(a, b);
+    let cd = NibblePairs::of(c, d);
+    let mut sum = PlacedPairs::none();
+    'low: for j in 0..7usize {
+        sum = sum.low(part_of_four(upper, lower, ab, cd, j), 8 * j as u64 + 8);
+    }
+    let seventh = part_of_four(upper, lower, ab, cd, 7);
+    sum = sum.middle(seventh);
+    'high: for j in 0..7usize {
+        sum = sum.high(
+            part_of_four(upper, lower, ab, cd, j + 8),
+            8 * j as u64 + 8,
+        );
+    }
+    let last = part_of_four(upper, lower, ab, cd, 15);
+    sum.reduce_with(last)
+}
