@@ -40,7 +40,7 @@
 //! default build, not in that for AVX2, and is not proved. [`Key`] and the states in pieces are wiped when they are dropped. The caller's slices, the stack, and the places that a key or a state
 //! was moved from are not.
 //!
-//! A call takes up to 24 KiB of stack in the library, however long the text is. A thread or a coroutine with less overflows its
+//! A call takes up to 12 KiB of stack in the library, however long the text is. A thread or a coroutine with less overflows its
 //! stack.
 //!
 //! The crate is `no_std`. Without its default feature `alloc` it has no calls that return vectors. The library calls
