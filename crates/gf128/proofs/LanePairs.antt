@@ -72,7 +72,7 @@ pub joined_words : (xs ys bs : List ℕ) → bs ≡ xs ++ ys → IsBlock xs → 
 joined_words xs ys bs e hx hy = (
   ap (take 16) e ∙ take-append-le 16 xs ys (omega (arith, hx.length_is)) ∙ take_all 16 xs (omega (arith, hx.length_is)),
   ap (drop 16) e ∙ drop-append-le 16 xs ys (omega (arith, hx.length_is))
-  ∙ ap (λ (l : List ℕ). l ++ ys) (drop_all 16 xs (omega (arith, hx.length_is))),
+      ∙ ap (λ (l : List ℕ). l ++ ys) (drop_all 16 xs (omega (arith, hx.length_is))),
 )
 
 -- the XOR of the words is a word
@@ -208,14 +208,13 @@ pub looked_halves : (t u x y high low : List ℕ) → IsPair t → IsPair u → 
 looked_halves t u x y high low ht hu hx hy lh ll eh el =
     let of : List ℕ → List ℕ → List ℕ = λ (p q : List ℕ). zip2 bit_xor (swz_l w8 16 p 0 high) (swz_l w8 16 q 0 low) in
     let wt : t ≡ take 16 t ++ drop 16 t = sym (take-append-drop 16 t) in
-    let wu : u ≡ take 16 u ++ drop 16 u = sym (take-append-drop 16 u) in
-    (
+    let wu : u ≡ take 16 u ++ drop 16 u = sym (take-append-drop 16 u) in (
       length-zip2 bit_xor (swz_l w8 16 t 0 high) (swz_l w8 16 u 0 low) (length-swz_l w8 16 t 0 high ∙ lh ∙ sym (length-swz_l w8 16 u 0 low ∙ ll))
-      ∙ length-swz_l w8 16 t 0 high ∙ lh,
+          ∙ length-swz_l w8 16 t 0 high ∙ lh,
       ap₂ (λ (p q : List ℕ). take 16 (of p q)) wt wu
-      ∙ looked_first (take 16 t) (drop 16 t) (take 16 u) (drop 16 u) x y high low hx hy (first_block t ht).length_is (first_block u hu).length_is
-      lh ll eh el,
+          ∙ looked_first (take 16 t) (drop 16 t) (take 16 u) (drop 16 u) x y high low hx hy (first_block t ht).length_is (first_block u hu).length_is
+          lh ll eh el,
       ap₂ (λ (p q : List ℕ). drop 16 (of p q)) wt wu
-      ∙ looked_second (take 16 t) (drop 16 t) (take 16 u) (drop 16 u) x y high low hx hy (first_block t ht).length_is (first_block u hu).length_is
-      lh ll eh el,
+          ∙ looked_second (take 16 t) (drop 16 t) (take 16 u) (drop 16 u) x y high low hx hy (first_block t ht).length_is (first_block u hu).length_is
+          lh ll eh el,
     )

@@ -95,10 +95,7 @@ pub(crate) fn times_pairs(
     let seventh = part_of_four(upper, lower, ab, cd, 7);
     sum = sum.middle(seventh);
     'high: for j in 0..7usize {
-        sum = sum.high(
-            part_of_four(upper, lower, ab, cd, j + 8),
-            8 * j as u64 + 8,
-        );
+        sum = sum.high(part_of_four(upper, lower, ab, cd, j + 8), 8 * j as u64 + 8);
     }
     let last = part_of_four(upper, lower, ab, cd, 15);
     sum.reduce_with(last)

@@ -11,10 +11,10 @@ use crate::polynomial_word::{block_of, word_of};
 use crate::tables::PlainMultiples;
 use crate::wide_mul::times_many;
 use crate::{Keyed128, Multiply};
-use octets::Block;
+use octets::{Block, WIDE};
 
 // From this many blocks on, it is faster to make the multiples of three more powers of the key and take four blocks at a time.
-const MANY: usize = 44;
+const MANY: usize = if WIDE { 16 } else { 44 };
 
 /// The multiplier that holds 32 multiples of the key, half a KiB: the first choice, whatever the length of the text. For a run
 /// of many blocks it makes the multiples of three more powers of the key, and takes four blocks at a time.

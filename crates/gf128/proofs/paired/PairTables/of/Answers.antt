@@ -18,9 +18,9 @@ tables-preserved c =
       length-set c.tables.low j c.of-low_pair.result.bytes ∙ held.1,
       λ k l. (
         one_pair c.tables.high c.of-high_pair.result.bytes s.high t.high j k held.0 (omega (arith, c.tables-test.true)) l (λ h. (held.2 k h).0)
-        (high, long_high),
+            (high, long_high),
         one_pair c.tables.low c.of-low_pair.result.bytes s.low t.low j k held.1 (omega (arith, c.tables-test.true)) l (λ h. (held.2 k h).1)
-        (low, long_low),
+            (low, long_low),
       ),
     )
 
