@@ -93,6 +93,7 @@ impl<'a> Keys for ByKept<'a> {
 }
 
 // Begins a message under a kept key and the bytes of a nonce: `state` becomes the initial state of a pass.
+#[inline(always)]
 fn begin_by_kept(
     keys: &mut KeyAndNonce,
     state: &mut PassState,

@@ -108,9 +108,13 @@ pub extern "C" fn aeadkit_sealer_update(sealer: &mut StoredSealer, piece: &mut [
     let Some(suite) = one_pass_marked(SEALER, sealer.mark) else {
         return NOT_BEGUN;
     };
-    let keys = sealer.keys.keys(suite);
     let mut known = KnownBlock::none();
-    outcome_number(sealer.state.seal(&keys, &mut known, piece))
+    // The keys are lent in the call: with a local for them the compiler keeps the code of AES-GCM-SIV, which is never reached here.
+    outcome_number(
+        sealer
+            .state
+            .seal(&sealer.keys.keys(suite), &mut known, piece),
+    )
 }
 
 /// Ends the sealing: `tag` becomes the tag of the text, 16 bytes, and zeros are left in the struct. Returns 0, or `NOT_BEGUN` if

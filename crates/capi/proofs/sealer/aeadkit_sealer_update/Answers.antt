@@ -15,7 +15,7 @@ returns-clause-holds c = λ s text h.
         c.outcome_number.ensures,
         done_as c.seal.result _ _ _
             (λ d. (record { mark_is = h.mark_is; one_pass = h.one_pass; keys = h.keys; state = d.0 }, d.1))
-            (c.seal.ensures.answer s text (c.keys-keys.ensures.keys s (sym same) h.keys) h.one_pass h.state
+            (c.seal.ensures.answer s text (c.keys.ensures.keys s (sym same) h.keys) h.one_pass h.state
             (c.none-known.ensures _)),
       ),
     )
@@ -32,6 +32,6 @@ returns-clause-status c = λ suite one is.
       (
         c.outcome_number.ensures,
         subst (FitsIn TextTooLong c.seal.result c.args.sealer.now.state.length (length c.args.piece.now))
-            (ap text_limit_by (c.keys-keys.ensures.by ∙ ap construction_of same)) c.seal.ensures.fault,
+            (ap text_limit_by (c.keys.ensures.by ∙ ap construction_of same)) c.seal.ensures.fault,
       ),
     )
