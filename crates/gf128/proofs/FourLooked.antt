@@ -1,5 +1,5 @@
 -- Four products by look-ups, each in the tables of its own power of the key.
-use Rattle.std.proofs.Common.{◌≡◌, ℕ, List, bit_xor, sym, subst}
+use Rattle.std.proofs.Common.{ℕ, List, sym, subst}
 use Rattle.std.specs.Int.{w128, to_be_bytes}
 use Rattle.octets.specs.Bytes.{IsBlock, le}
 use Rattle.octets.specs.Polynomial.{power}

@@ -1,5 +1,5 @@
 -- Two words in 32 bytes, and their XOR.
-use Rattle.std.proofs.Common.{◌≡◌, ℕ, zero, suc, ◌+◌, ◌-◌, ◌*◌, ◌/◌, ◌%◌, ◌^◌, ◌<◌, ◌≤◌, List, [], ◌∷◌, ◌++◌}
+use Rattle.std.proofs.Common.{◌≡◌, ℕ, zero, suc, ◌+◌, ◌-◌, ◌*◌, ◌/◌, ◌%◌, ◌^◌, ◌<◌, List, [], ◌∷◌, ◌++◌}
 use Rattle.std.proofs.Common.{length, take, drop, replicate, get_or, bit_xor, inl, inr, refl, sym, ap, ap₂, ◌∙◌, arith, subst, w8}
 use Rattle.std.proofs.lemmas.Bool.{cases_lt}
 use Rattle.std.proofs.lemmas.List.{get_or-take, get_or-drop, get_or_past, length-take-le, length-drop, take-append-drop}
@@ -8,11 +8,11 @@ use Rattle.std.proofs.lemmas.Nat.{xor_block, xor_shr, xor_mod, xor_lt}
 use Rattle.std.proofs.lemmas.Simd.{swz_l, length-swz_l, length-zip2}
 use lib.Lanes.{zip2, digits_l, number_l}
 use Rattle.octets.specs.Bytes.{IsBlock, le}
-use Rattle.octets.proofs.Numbers.{le_split, le_small, power_of_bytes}
+use Rattle.octets.proofs.Numbers.{le_split, power_of_bytes}
 use Rattle.octets.proofs.Xors.{zip2_xor, length-xor_bytes, xor_bytes_at}
 use Rattle.gf128.specs.Code.Words.{lanes_up, lanes_down, looked_up, both, IsPair}
 use Rattle.gf128.proofs.LaneWords.{le_xor, le_block, le_digits}
-use Rattle.gf128.proofs.Moves.{number_of, xor_exchange, xor_shl, lanes_up_lt, lanes_down_lt, shr_small}
+use Rattle.gf128.proofs.Moves.{number_of, xor_exchange, xor_shl, shr_small}
 use Rattle.gf128.proofs.Pairs.{looked_first, looked_second}
 
 -- ---- halves

@@ -1,8 +1,8 @@
 -- Tables of sixteen bytes, two side by side.
-use Rattle.std.proofs.Common.{◌≡◌, ℕ, ◌+◌, ◌<◌, List, [], ◌++◌, length, take, drop, map, get_or, set, inl, inr, refl, sym, ap, ◌∙◌, arith, subst}
+use Rattle.std.proofs.Common.{◌≡◌, ℕ, ◌+◌, ◌<◌, List, [], ◌++◌, length, take, drop, set, inl, inr, sym, ap, ◌∙◌, arith, subst}
 use Rattle.std.proofs.lemmas.Bool.{cases_lt}
 use Rattle.std.proofs.lemmas.List.{ext_get_or, length-map, get_or-set_same, get_or-set_other, take-append-le, drop-append-le}
-use Rattle.std.proofs.lemmas.List.{take_all, drop_all, get_or_past, get_or-map}
+use Rattle.std.proofs.lemmas.List.{take_all, drop_all, get_or-map}
 use Rattle.gf128.specs.Code.Words.{table_at, first_tables, second_tables}
 
 -- table k of z is those of s and t side by side

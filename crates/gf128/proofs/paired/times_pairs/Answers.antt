@@ -1,5 +1,4 @@
 use Rattle.std.proofs.Common.{◌≡◌, ℕ, ◌+◌, ◌*◌, ◌∙◌, ap, sym, arith, refl}
-use Rattle.octets.specs.Bytes.{le}
 use Rattle.gf128.specs.Code.Words.{placed, both, first_tables, second_tables, looked_word, looked_four, folded_wide}
 use Rattle.gf128.proofs.Placings.{placed_none, placed_more}
 use Rattle.gf128.proofs.paired.times_pairs.Goals as goal

@@ -1,4 +1,4 @@
-use Rattle.std.proofs.Common.{◌≡◌, ◌++◌, ◌∙◌, length, ap, arith}
+use Rattle.std.proofs.Common.{◌≡◌, ◌∙◌, length, ap, arith}
 use Rattle.std.proofs.lemmas.List.{length-append}
 use Rattle.gf128.proofs.LanePairs.{joined_words, pair_of_halves}
 use Rattle.gf128.proofs.lane_pairs.LanePair.of.Goals as goal

@@ -1,5 +1,4 @@
-use Rattle.std.proofs.Common.{◌≡◌, List, ℕ, ap, ap₂, bit_xor, subst, sym}
-use Rattle.std.proofs.Common.{take, drop}
+use Rattle.std.proofs.Common.{List, ℕ, ap₂, bit_xor}
 use Rattle.octets.specs.Bytes.{le}
 use Rattle.gf128.proofs.Pairs.{places_ok32, high_place32, low_place32}
 use Rattle.gf128.proofs.LanePairs.{looked_halves, pair_of_halves, first_block, second_block}

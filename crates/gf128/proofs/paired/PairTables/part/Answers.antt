@@ -1,6 +1,6 @@
 use Rattle.std.proofs.Common.{◌≡◌, ℕ, ◌∙◌, List, length, take, drop, bit_xor, sym, ap, ap₂, arith}
 use Rattle.octets.specs.Bytes.{le}
-use Rattle.gf128.specs.Code.Words.{looked_up, table_at}
+use Rattle.gf128.specs.Code.Words.{looked_up}
 use Rattle.gf128.proofs.PairedTables.{first_at, second_at}
 use Rattle.gf128.proofs.paired.PairTables.part.Goals as goal
 

@@ -1,4 +1,4 @@
-use Rattle.std.proofs.Common.{◌≡◌, ℕ, ◌*◌, ◌∙◌, List, [], length, get_or, ap, arith, bit_xor}
+use Rattle.std.proofs.Common.{◌≡◌, ℕ, ◌∙◌, List, [], length, get_or, ap, arith, bit_xor}
 use Rattle.std.specs.Int.{w128, to_be_bytes}
 use Rattle.octets.specs.Bytes.{le}
 use Rattle.octets.specs.Polynomial.{coefficient}
