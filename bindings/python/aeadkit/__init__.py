@@ -41,9 +41,10 @@ of the nonce. Random nonces serve for at most 2^32 sealings under a key (SP 800-
 
 A call that is refused raises a subclass of Refused. Faults of a suite and of lengths are ValueErrors too.
 
-No suite and no key wrap looks up memory by a secret byte or branches on one: this was looked for in the machine code of the
-default build, not in that for AVX2, and is not proved. A Key, a Sealer, an Opener and a SivSealer wipe the memory in which they hold the key when they are closed or deleted; a
-with statement closes them. The bytes of keys and texts that you pass or get are Python's own, and are not wiped.
+No suite and no key wrap looks up memory by a secret byte or branches on one: this was looked for in the machine code of both
+builds of the library, and is not proved. A Key, a Sealer, an Opener and a SivSealer wipe the memory in which they hold the key
+when they are closed or deleted; a with statement closes them. The bytes of keys and texts that you pass or get are Python's own,
+and are not wiped.
 
 The library is the file that the environment variable AEADKIT names, or else the package's own, or else the one that the
 system finds. The import fails with an ImportError that names the file if the library has another major version, or structs of
