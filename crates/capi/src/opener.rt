@@ -275,9 +275,9 @@ pub extern "C" fn aeadkit_opener_resume(
 pub extern "C" fn aeadkit_opener_wipe(opener: &mut StoredOpener)
     ensures { opener.new ≡ zeros }
 {
-    opener.mark = 0;
-    opener.keys = KeyAndNonce::zeros();
-    opener.state = TwoPassState::zeros();
+    // As a whole, so that the bytes between the fields are zeros too.
+    let none = StoredOpener::zeros();
+    *opener = none;
 }
 
 /// Returns the size of the struct of an opening in pieces: 192 bytes.

@@ -203,9 +203,9 @@ pub extern "C" fn aeadkit_sealer_resume(
 pub extern "C" fn aeadkit_sealer_wipe(sealer: &mut StoredSealer)
     ensures { sealer.new ≡ zeros }
 {
-    sealer.mark = 0;
-    sealer.keys = KeyAndNonce::zeros();
-    sealer.state = PassState::zeros();
+    // As a whole, so that the bytes between the fields are zeros too.
+    let none = StoredSealer::zeros();
+    *sealer = none;
 }
 
 /// Returns the size of the struct of a sealing in pieces in one reading: 144 bytes.

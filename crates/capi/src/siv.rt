@@ -270,9 +270,9 @@ pub extern "C" fn aeadkit_siv_resume(
 pub extern "C" fn aeadkit_siv_wipe(siv: &mut StoredSiv)
     ensures { siv.new ≡ zeros }
 {
-    siv.mark = 0;
-    siv.keys = KeyAndNonce::zeros();
-    siv.state = TwoPassState::zeros();
+    // As a whole, so that the bytes between the fields are zeros too.
+    let none = StoredSiv::zeros();
+    *siv = none;
 }
 
 /// Returns the size of the struct of a sealing in two readings: 192 bytes.
