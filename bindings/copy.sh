@@ -52,12 +52,12 @@ proved() {
     grep '^logic=' "$log" | tail -n 1
 }
 
-# Lays into the copy the one source file of the crate `target` that fits the processor: fit REPOSITORY ROOM [rattle's flags]
-# For one with AVX2 it is bindings/avx2/target.txt, else that of the repository. The gate lets no .rt file stand outside a crate.
+# Lays into the copy the one source file, of the crate `octets`, that fits the processor: fit REPOSITORY ROOM [rattle's flags]
+# For one with AVX2 it is bindings/avx2/vector_width.txt, else that of the repository. The gate lets no .rt file stand outside a crate.
 fit() {
-    source=$1/crates/target/src/lib.rt
-    case " $* " in *" --cpu"[=\ ]x86-64-v[34]" "*) source=$1/bindings/avx2/target.txt ;; esac
-    cp "$source" "$2/crates/target/src/lib.rt"
+    source=$1/crates/octets/src/vector_width.rt
+    case " $* " in *" --cpu"[=\ ]x86-64-v[34]" "*) source=$1/bindings/avx2/vector_width.txt ;; esac
+    cp "$source" "$2/crates/octets/src/vector_width.rt"
 }
 
 # Builds ROOM/aeadkit.a of the copy, and FOLDER/libaeadkit.a from it: archive REPOSITORY ROOM FOLDER EXPORTS [rattle's flags]

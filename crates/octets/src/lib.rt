@@ -28,6 +28,7 @@ mod script;
 mod std_io;
 mod transfer;
 mod uses;
+mod vector_width;
 mod words;
 mod work;
 
@@ -42,8 +43,8 @@ pub use memory::{SliceIntake, VecOutlet};
 pub use pieces::{Absorb, Pieces};
 pub use script::{ScriptIntake, ScriptOutlet, Step};
 pub use std_io::{FromRead, ToWrite};
-pub use target::WIDE;
 pub use transfer::{fill, give_all};
+pub use vector_width::WIDE;
 pub use words::{be_bytes, be_pair, le_bytes};
 pub use work::{Beside, BlockWork, Idle, Order, Stream, Work};
 

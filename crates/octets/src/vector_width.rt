@@ -1,0 +1,6 @@
+//! What the build says of the processor's vectors. No code can ask, so this module is one constant, and a build for processors with
+//! AVX2 takes `bindings/avx2/vector_width.txt` in place of this file.
+
+/// Whether a vector of the processor holds 32 bytes, as with AVX2. It chooses between forms that give the same bytes and
+/// differ in speed alone.
+pub const WIDE: bool = false;
