@@ -12,3 +12,4 @@ pub mod Findings
 pub mod Passes
 pub mod Returns
 pub mod PassSteps
+pub mod Rules

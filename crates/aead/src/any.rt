@@ -11,15 +11,16 @@ ghost use Rattle.aead.specs.Pieces.{MasksByBytes};
 ghost use Rattle.aead.specs.Code.MessageKeys.{AreKeysOf};
 
 use crate::aead::Aead;
+use crate::aes_pass;
 use crate::chacha_poly::{ChaChaPoly, one_time_key};
-use crate::gcm::Gcm;
-use crate::gcm_pass;
+use crate::gcm::{Gcm, hash_keys};
 use crate::gcm_siv::GcmSiv;
 use crate::hashes::PolyKeys;
 use crate::keys::{AesKeys, CipherKeys, ExpandedKey, MessageKeys};
 use crate::pass_state::PassState;
 use crate::suite::{Construction, Suite};
 use aes::AesKey;
+use gf128::GhashOrder;
 use octets::{Fault, Key32, Nonce, Tag};
 
 /// A cipher of a suite whose tag is over the ciphertext, so that one reading of a text seals it.
@@ -71,8 +72,8 @@ impl AnyOnePass {
                 PassState::initial(&PolyKeys, one_time_key(cipher.key(), nonce), aad)
             }
             AnyOnePass::Gcm(cipher) => {
-                let (key, ghash_key, few) = cipher.keys();
-                gcm_pass::initial_state(ExpandedKey { key, few }, ghash_key, nonce, aad)
+                let (key, ghash_key, _) = cipher.keys();
+                aes_pass::initial_state::<GhashOrder>(hash_keys(key, ghash_key, nonce), aad)
             }
         }
     }

@@ -1,15 +1,15 @@
-//! The authenticator of a message, which makes its tag. It hashes the associated data, padded with zeros to whole blocks; then
+//! The authenticator of a message, which makes the hash that its tag is made of. It hashes the associated data, padded with zeros to whole blocks; then
 //! the ciphertext, or under AES-GCM-SIV the text, which may come in pieces and is padded in the same way; and at the end both
 //! lengths (RFC 8439, 2.8; SP 800-38D, 7.1; RFC 8452, 4).
 
 ghost use Rattle.std.specs.Prelude.{◌≡◌, ◌+◌, ◌<◌, ◌≤◌, ◌^◌, ◌++◌, ℕ, List, [], get_or, length};
 ghost use Rattle.octets.specs.Ends.{hashed_of};
 ghost use Rattle.aead.specs.Suites.{text_limit, aad_limit};
-ghost use Rattle.aead.specs.Sealing.{Setting, tag_over};
-ghost use Rattle.aead.specs.Code.States.{HoldsAuthenticator};
+ghost use Rattle.aead.specs.Sealing.{Setting};
+ghost use Rattle.aead.specs.Code.States.{HoldsAuthenticator, digest_over};
 
 use crate::hashes::TagHash;
-use octets::{Order, Stream, Tag};
+use octets::{Block, Order, Stream};
 
 // The hash of the associated data and of the bytes after it, and both lengths so far.
 #[derive(Drop)]
@@ -85,22 +85,20 @@ impl<H: TagHash> Authenticator<H> {
         self.length += piece.len() as u64;
     }
 
-    // Returns the tag of what was hashed. The authenticator must not be used afterwards.
+    // Returns the hash, of which the tag is made. The authenticator must not be used afterwards.
     #[inline(always)]
-    pub(crate) fn tag(&mut self) -> Tag
-        ensures tag { (s : Setting) (m : List ℕ) → HoldsAuthenticator H.held self.old s m
-            → result ≡ tag_over s.suite s.key s.nonce s.aad m }
+    pub(crate) fn digest(&mut self) -> Block
+        ensures digest { (s : Setting) (m : List ℕ) → HoldsAuthenticator H.held self.old s m → result ≡ digest_over s m }
         ensures length { self.new.length ≡ self.old.length }
     {
-        self.hash.tag_with_lengths(self.aad_length, self.length)
+        self.hash.digest(self.aad_length, self.length)
     }
 
-    // Returns the tag of what was hashed, and consumes the authenticator.
+    // Returns the hash, of which the tag is made, and consumes the authenticator.
     #[inline(always)]
-    pub(crate) fn finish(mut self) -> Tag
-        ensures { (s : Setting) (m : List ℕ) → HoldsAuthenticator H.held self s m
-            → result ≡ tag_over s.suite s.key s.nonce s.aad m }
+    pub(crate) fn finish(mut self) -> Block
+        ensures { (s : Setting) (m : List ℕ) → HoldsAuthenticator H.held self s m → result ≡ digest_over s m }
     {
-        self.tag()
+        self.digest()
     }
 }

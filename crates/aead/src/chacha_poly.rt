@@ -5,8 +5,8 @@ ghost use Rattle.std.specs.Prelude.{◌≡◌, ℕ, List, ◌-◌, ◌^◌, ◌%
 ghost use Rattle.std.specs.Prelude.{MatchResult};
 ghost use Rattle.chacha.specs.Stream.{key_stream_byte};
 ghost use Rattle.aead.specs.Suites.{ByChaCha, construction_of, text_limit, aad_limit};
-ghost use Rattle.aead.specs.Sealing.{Setting, Opened, poly_key};
-ghost use Rattle.aead.specs.Code.States.{MadeByChaCha};
+ghost use Rattle.aead.specs.Sealing.{Setting, Opened, poly_key, tag_over};
+ghost use Rattle.aead.specs.Code.States.{MadeByChaCha, digest_over};
 ghost use Rattle.aead.specs.Ciphers.{Keyed, setting};
 ghost use Rattle.aead.specs.Refusals.{OpenRefused};
 ghost use Rattle.aead.specs.InPlace.{OpensInPlace};
@@ -14,13 +14,14 @@ ghost use Rattle.aead.specs.declared.suite.Suite.TheVariants.{ChaCha20Poly1305};
 
 use crate::aead::Aead;
 use crate::buffered_stream::BufferedStream;
+use crate::message::Message;
 use crate::one_pass::{OnePass, open_and_restore, open_beside, open_whole, seal_whole};
 use crate::suite::Suite;
 use chacha::{
     BlocksAtOnce, ChaStream, EightBlocks, FiveBlocks, FourBlocks, KeyStreamStart, NineBlocks,
     SEVEN_BLOCKS, TwoBlocks, block,
 };
-use octets::{Fault, Key32, Nonce, Tag};
+use octets::{Block, Fault, Key32, Nonce, Tag};
 use poly1305::Poly;
 use std::marker::Model;
 
@@ -55,8 +56,8 @@ impl ChaChaPoly {
 
     // Returns the inputs of one message: the key and the nonce.
     pub(crate) fn nonced<'k, 'n>(&'k self, nonce: &'n Nonce) -> NoncedChaCha<'k, 'n>
-        ensures keyed { ⟦<NoncedChaCha<'k, 'n> as OnePass>⟧.keyed result ≡ self.now }
-        ensures nonce { ⟦<NoncedChaCha<'k, 'n> as OnePass>⟧.nonce result ≡ nonce.now }
+        ensures keyed { ⟦<NoncedChaCha<'k, 'n> as Message>⟧.keyed result ≡ self.now }
+        ensures nonce { ⟦<NoncedChaCha<'k, 'n> as Message>⟧.nonce result ≡ nonce.now }
     {
         NoncedChaCha {
             key: &self.key,
@@ -134,6 +135,14 @@ pub(crate) fn mask_at(key: &Key32, nonce: &Nonce, done: u64) -> ChaStream
     ChaStream::at(key, nonce, 64 + done)
 }
 
+// Returns the tag, which is the hash.
+pub(crate) fn hash_as_tag(digest: &Block) -> Tag
+    ensures { (s : Setting) (m : List ℕ) → construction_of s.suite ≡ ByChaCha → digest.now ≡ digest_over s m
+        → result ≡ tag_over s.suite s.key s.nonce s.aad m }
+{
+    Tag::new(*digest.bytes())
+}
+
 // Returns the first 32 bytes.
 pub(crate) fn first_half(start: &[u8]) -> [u8; 32]
     requires { 32 ≤ length start.now }
@@ -151,7 +160,7 @@ pub(crate) struct NoncedChaCha<'k, 'n> {
     nonce: &'n Nonce,
 }
 
-impl<'k, 'n> OnePass for NoncedChaCha<'k, 'n> {
+impl<'k, 'n> Message for NoncedChaCha<'k, 'n> {
     type Stream = ChaStream;
 
     type Hash = Poly;
@@ -168,6 +177,12 @@ impl<'k, 'n> OnePass for NoncedChaCha<'k, 'n> {
         Poly::new(&one_time_key(self.key, self.nonce))
     }
 
+    fn tag(&self, digest: &Block) -> Tag {
+        hash_as_tag(digest)
+    }
+}
+
+impl<'k, 'n> OnePass for NoncedChaCha<'k, 'n> {
     fn mask(&self) -> ChaStream {
         ChaStream::new(self.key, self.nonce, 1)
     }
@@ -188,7 +203,7 @@ struct BufferedChaCha<'a> {
         → slice_index start.now i ≡ key_stream_byte key.now nonce.now 0 i },
 }
 
-impl<'a> OnePass for BufferedChaCha<'a> {
+impl<'a> Message for BufferedChaCha<'a> {
     type Stream = BufferedStream<'a>;
 
     type Hash = Poly;
@@ -206,6 +221,12 @@ impl<'a> OnePass for BufferedChaCha<'a> {
         Poly::new(&first_half(self.start))
     }
 
+    fn tag(&self, digest: &Block) -> Tag {
+        hash_as_tag(digest)
+    }
+}
+
+impl<'a> OnePass for BufferedChaCha<'a> {
     fn mask(&self) -> BufferedStream<'a> {
         BufferedStream::new(self.key, self.nonce, self.start)
     }

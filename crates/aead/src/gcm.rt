@@ -3,23 +3,22 @@
 ghost use Rattle.std.specs.Prelude.{◌≡◌, ◌≢◌, ◌<◌, ◌≤◌, ◌^◌, ◌++◌, ◌∷◌, ℕ, List, [], length, MatchResult};
 ghost use Rattle.std.proofs.Common.{ap};
 ghost use Rattle.aes.specs.Cipher.{cipher, IsKey};
-ghost use Rattle.aes.specs.Code.Streams.{KnowsCipher};
 ghost use Rattle.aead.specs.declared.suite.Suite.{Suite};
 ghost use Rattle.aead.specs.Suites.{construction_of, is_one_pass, key_length, text_limit, aad_limit, ByGcm};
-ghost use Rattle.aead.specs.Sealing.{Setting, Opened, hash_key, j0};
+ghost use Rattle.aead.specs.Sealing.{Setting, Opened, hash_key, j0, tag_over};
 ghost use Rattle.aead.specs.PassStates.{IsHashKey};
-ghost use Rattle.aead.specs.Code.States.{MadeByGcm};
+ghost use Rattle.aead.specs.Code.States.{digest_over};
 ghost use Rattle.aead.specs.Ciphers.{Keyed, setting};
 ghost use Rattle.aead.specs.InPlace.{OpensInPlace};
 
 use crate::aead::Aead;
 use crate::derived_keys::joined;
-use crate::hashes::GhashTag;
+use crate::message::Message;
 use crate::one_pass::{OnePass, open_whole, seal_whole};
 use crate::suite::Suite;
-use aes::{AesKey, CtrBe, KnownBlock};
+use aes::{AesKey, CtrBe};
 use gf128::{Ghash, Keyed128, Multiply, TableMul, WideMul};
-use octets::{Block, Fault, Nonce, Tag};
+use octets::{Block, Fault, Nonce, Tag, xored};
 use std::marker::Model;
 
 /// AES-GCM under a key of 16, 24 or 32 bytes (SP 800-38D). Opening in place authenticates before it
@@ -66,8 +65,8 @@ impl Gcm {
     ) -> NoncedGcm<'k, 'n, M>
         requires { M.key_bytes multiplier ≡ hash_key self.now.key }
         ensures key { IsKey self.now.key }
-        ensures keyed { ⟦<NoncedGcm<'k, 'n, M> as OnePass>⟧.keyed result ≡ self.now }
-        ensures nonce { ⟦<NoncedGcm<'k, 'n, M> as OnePass>⟧.nonce result ≡ nonce.now }
+        ensures keyed { ⟦<NoncedGcm<'k, 'n, M> as Message>⟧.keyed result ≡ self.now }
+        ensures nonce { ⟦<NoncedGcm<'k, 'n, M> as Message>⟧.nonce result ≡ nonce.now }
     {
         NoncedGcm {
             suite: self.suite,
@@ -117,18 +116,12 @@ pub(crate) fn hash_keys(key: &AesKey, ghash_key: &Block, nonce: &Nonce) -> [u8; 
     )
 }
 
-// Returns the mask of a message, after its first `done` bytes.
-pub(crate) fn mask_at<'k>(
-    key: &'k AesKey,
-    nonce: &Nonce,
-    done: u64,
-    known: &KnownBlock,
-) -> CtrBe<'k>
-    requires { done < 2 ^ 63 }
-    ensures { (s : Setting) (tag : List ℕ) → construction_of s.suite ≡ ByGcm → s.key ≡ key.now
-        → s.nonce ≡ nonce.now → KnowsCipher known.now s.key → MadeByGcm result s tag done }
+// Returns the tag: the hash, XORed with the cipher of J0 (SP 800-38D, 7.1).
+pub(crate) fn masked_tag(mask: &Block, digest: &Block) -> Tag
+    ensures { (s : Setting) (m : List ℕ) → construction_of s.suite ≡ ByGcm → mask.now ≡ cipher s.key (j0 s.nonce)
+        → digest.now ≡ digest_over s m → result ≡ tag_over s.suite s.key s.nonce s.aad m }
 {
-    CtrBe::at_known(key, &counter_block(nonce, 2), done, known)
+    Tag::new(xored(mask.bytes(), digest.bytes()))
 }
 
 // Returns the block of the nonce and a counter (SP 800-38D, 7.1). The last word is written as one, since the cipher reads words.
@@ -154,10 +147,10 @@ pub(crate) struct NoncedGcm<'k, 'n, M: Multiply> {
     ghost multiplier_is: { M.key_bytes multiplier ≡ hash_key key.now },
 }
 
-impl<'k, 'n, M: Multiply + Copy> OnePass for NoncedGcm<'k, 'n, M> {
+impl<'k, 'n, M: Multiply + Copy> Message for NoncedGcm<'k, 'n, M> {
     type Stream = CtrBe<'k>;
 
-    type Hash = GhashTag<M>;
+    type Hash = Ghash<M>;
 
     ghost keyed = { λ m. record { suite = m.suite; key = m.key.now } };
 
@@ -168,13 +161,18 @@ impl<'k, 'n, M: Multiply + Copy> OnePass for NoncedGcm<'k, 'n, M> {
     }
 
     #[inline(always)]
-    fn hash(&self) -> GhashTag<M> {
-        GhashTag {
-            hash: Ghash::with(self.multiplier),
-            mask: self.key.encrypt_in_registers(&counter_block(self.nonce, 1)),
-        }
+    fn hash(&self) -> Ghash<M> {
+        Ghash::with(self.multiplier)
     }
 
+    #[inline(always)]
+    fn tag(&self, digest: &Block) -> Tag {
+        let mask = self.key.encrypt_in_registers(&counter_block(self.nonce, 1));
+        masked_tag(&mask, digest)
+    }
+}
+
+impl<'k, 'n, M: Multiply + Copy> OnePass for NoncedGcm<'k, 'n, M> {
     #[inline(always)]
     fn mask(&self) -> CtrBe<'k> {
         CtrBe::new(self.key, &counter_block(self.nonce, 2))
@@ -213,9 +211,9 @@ impl<'k, M: Multiply + Copy> BorrowedGcm<'k, M> {
     // Returns the inputs of one message.
     #[inline(always)]
     fn nonced<'n>(&self, nonce: &'n Nonce) -> NoncedGcm<'k, 'n, M>
-        ensures keyed { ⟦<NoncedGcm<'k, 'n, M> as OnePass>⟧.keyed result
+        ensures keyed { ⟦<NoncedGcm<'k, 'n, M> as Message>⟧.keyed result
             ≡ ⟦<BorrowedGcm<'k, M> as Aead>⟧.keyed self.now }
-        ensures nonce { ⟦<NoncedGcm<'k, 'n, M> as OnePass>⟧.nonce result ≡ nonce.now }
+        ensures nonce { ⟦<NoncedGcm<'k, 'n, M> as Message>⟧.nonce result ≡ nonce.now }
     {
         NoncedGcm {
             suite: self.suite,

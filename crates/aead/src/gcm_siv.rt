@@ -1,26 +1,29 @@
 //! The cipher AES-GCM-SIV (RFC 8452, 4 and 5). An authentication key and an encryption key are derived for each message. The
 //! tag is over the text, and the first counter block of the mask is made from the tag.
 
-ghost use Rattle.std.specs.Prelude.{◌≡◌, ◌≢◌, ◌<◌, ◌≤◌, ◌^◌, ◌++◌, length, MatchResult};
+ghost use Rattle.std.specs.Prelude.{◌≡◌, ◌≢◌, ◌<◌, ◌≤◌, ◌^◌, ◌++◌, ℕ, List, length, MatchResult};
 ghost use Rattle.octets.specs.Bytes.{IsBlock};
-ghost use Rattle.aes.specs.Code.Streams.{KnowsCipher};
+ghost use Rattle.aes.specs.Counters.{up_le};
+ghost use Rattle.gf128.specs.Orders.{Reversed, Serves};
 ghost use Rattle.gf128.specs.Polyval.{IsReversedMulX};
 ghost use Rattle.gf128.specs.Code.States.{key_of};
 ghost use Rattle.aead.specs.declared.suite.Suite.{Suite};
 ghost use Rattle.aead.specs.Suites.{construction_of, key_length, text_limit, aad_limit, ByGcmSiv};
 ghost use Rattle.aead.specs.Sealing.{Setting, Opened, authentication_key, encryption_key, counter_block};
+ghost use Rattle.aead.specs.Sealing.{tag_block, tag_over};
+ghost use Rattle.aead.specs.PassStates.{IsHashKey};
 ghost use Rattle.aead.specs.Ciphers.{Keyed, setting};
 ghost use Rattle.aead.specs.InPlace.{OpensInPlace};
-ghost use Rattle.aead.specs.Code.States.{MadeByGcmSiv};
+ghost use Rattle.aead.specs.Code.States.{MadeByCounter, digest_over};
 
 use crate::aead::Aead;
-use crate::derived_keys::DerivedKeys;
-use crate::hashes::PolyvalTag;
+use crate::derived_keys::{DerivedKeys, joined};
+use crate::message::Message;
 use crate::suite::Suite;
 use crate::two_pass::{TwoPass, open_whole, seal_whole};
-use aes::{AesKey, CtrLe, KnownBlock};
+use aes::{AesKey, CtrLe};
 use gf128::{Keyed128, Multiply, Polyval, TableMul};
-use octets::{Block, Fault, Nonce, Tag};
+use octets::{Block, Fault, Nonce, Tag, xor_into};
 use std::marker::Model;
 
 /// AES-GCM-SIV under a key of 16 or 32 bytes (RFC 8452). Opening in place decrypts before it can
@@ -80,8 +83,8 @@ impl GcmSiv {
         requires block { IsBlock (authentication_key self.now.key nonce.now) }
         requires multiplier { IsReversedMulX (authentication_key self.now.key nonce.now)
             (M.key_bytes multiplier) }
-        ensures keyed { ⟦<NoncedGcmSiv<'k, 'n, M> as TwoPass>⟧.keyed result ≡ self.now }
-        ensures nonce { ⟦<NoncedGcmSiv<'k, 'n, M> as TwoPass>⟧.nonce result ≡ nonce.now }
+        ensures keyed { ⟦<NoncedGcmSiv<'k, 'n, M> as Message>⟧.keyed result ≡ self.now }
+        ensures nonce { ⟦<NoncedGcmSiv<'k, 'n, M> as Message>⟧.nonce result ≡ nonce.now }
     {
         NoncedGcmSiv {
             suite: self.suite,
@@ -107,25 +110,37 @@ pub(crate) fn counter_block(tag: &[u8; 16]) -> [u8; 16]
 pub(crate) fn tag_mask<'k>(encryption: &'k AesKey, tag: &Tag) -> CtrLe<'k>
     ensures { (s : Setting) → construction_of s.suite ≡ ByGcmSiv
         → encryption.now ≡ encryption_key s.key s.nonce
-        → MadeByGcmSiv result s tag.now 0 }
+        → MadeByCounter ByGcmSiv up_le result s tag.now 0 }
 {
     CtrLe::new(encryption, &Block::new(counter_block(tag.bytes())))
 }
 
-// Returns the mask of the message with this tag, after its first `done` bytes.
-#[inline(always)]
-pub(crate) fn mask_at<'k>(
-    encryption: &'k AesKey,
-    tag: &[u8; 16],
-    done: u64,
-    known: &KnownBlock,
-) -> CtrLe<'k>
-    requires { done < 2 ^ 63 }
-    ensures { (s : Setting) → construction_of s.suite ≡ ByGcmSiv
-        → encryption.now ≡ encryption_key s.key s.nonce → KnowsCipher known.now encryption.now
-        → MadeByGcmSiv result s tag.now done }
+// Returns the hash key as a state holds it: the key of POLYVAL's multiplier, and zeros.
+pub(crate) fn hash_keys(hash_key: &Block) -> [u8; 32]
+    ensures { (s : Setting) → Serves Reversed (authentication_key s.key s.nonce) hash_key.now
+        → IsHashKey ByGcmSiv result s }
 {
-    CtrLe::at_known(encryption, &Block::new(counter_block(tag)), done, known)
+    joined(hash_key.bytes(), &[0; 16])
+}
+
+// Returns the block that is encrypted to the tag (RFC 8452, 4).
+fn tag_block(hash: &[u8; 16], nonce: &[u8; 12]) -> [u8; 16]
+    ensures { result ≡ tag_block hash.now nonce.now }
+{
+    let mut block = *hash;
+    xor_into(&mut block[..12], nonce);
+    block[15] &= 0x7f;
+    block
+}
+
+// Returns the tag: the cipher of a block that the hash and the nonce give (RFC 8452, 4).
+pub(crate) fn encrypted_tag(encryption: &AesKey, nonce: &Nonce, digest: &Block) -> Tag
+    ensures { (s : Setting) (m : List ℕ) → construction_of s.suite ≡ ByGcmSiv
+        → encryption.now ≡ encryption_key s.key s.nonce → nonce.now ≡ s.nonce → digest.now ≡ digest_over s m
+        → result ≡ tag_over s.suite s.key s.nonce s.aad m }
+{
+    let block = Block::new(tag_block(digest.bytes(), nonce.bytes()));
+    Tag::new(*encryption.encrypt_in_registers(&block).bytes())
 }
 
 // The inputs of one message: the suite, the key, the nonce, the message's encryption key, and a multiplier by its authentication key.
@@ -143,10 +158,10 @@ pub(crate) struct NoncedGcmSiv<'k, 'n, M: Multiply> {
         ∥₁ },
 }
 
-impl<'k, 'n, M: Multiply + Copy> TwoPass for NoncedGcmSiv<'k, 'n, M> {
+impl<'k, 'n, M: Multiply + Copy> Message for NoncedGcmSiv<'k, 'n, M> {
     type Stream = CtrLe<'k>;
 
-    type Hash = PolyvalTag<M, &'k AesKey>;
+    type Hash = Polyval<M>;
 
     ghost keyed = { λ m. record { suite = m.suite; key = m.key.now } };
 
@@ -157,14 +172,17 @@ impl<'k, 'n, M: Multiply + Copy> TwoPass for NoncedGcmSiv<'k, 'n, M> {
     }
 
     #[inline(always)]
-    fn hash(&self) -> PolyvalTag<M, &'k AesKey> {
-        PolyvalTag {
-            hash: Polyval::with(self.multiplier),
-            key: self.encryption,
-            nonce: *self.nonce,
-        }
+    fn hash(&self) -> Polyval<M> {
+        Polyval::with(self.multiplier)
     }
 
+    #[inline(always)]
+    fn tag(&self, digest: &Block) -> Tag {
+        encrypted_tag(self.encryption, self.nonce, digest)
+    }
+}
+
+impl<'k, 'n, M: Multiply + Copy> TwoPass for NoncedGcmSiv<'k, 'n, M> {
     #[inline(always)]
     fn mask(&self, tag: &Tag) -> CtrLe<'k> {
         tag_mask(self.encryption, tag)

@@ -1,23 +1,23 @@
-//! The hashes of the constructions, and the tags that they end in: Poly1305 (RFC 8439, 2.8), GHASH (SP 800-38D, 7.1) and
-//! POLYVAL (RFC 8452, 4).
+//! The hashes of the constructions, of which their tags are made: Poly1305 (RFC 8439, 2.8), GHASH (SP 800-38D, 7.1) and POLYVAL
+//! (RFC 8452, 4).
 
-ghost use Rattle.std.specs.Prelude.{◌≡◌, ◌<◌, ◌*◌, ◌/◌, ◌^◌, ◌++◌, ℕ, List, length, drop};
+ghost use Rattle.std.specs.Prelude.{◌≡◌, ◌<◌, ◌*◌, ◌/◌, ◌++◌, ℕ, List, length, take, drop};
 ghost use Rattle.octets.specs.Bytes.{pad16};
 ghost use Rattle.octets.specs.Ends.{hashed_of};
-ghost use Rattle.aes.specs.Cipher.{cipher};
-ghost use Rattle.gf128.specs.Orders.{Reversed, Serves};
-ghost use Rattle.aead.specs.Suites.{ByChaCha, ByGcm, ByGcmSiv, construction_of};
-ghost use Rattle.aead.specs.Sealing.{Setting, Fits, tag_block, tag_over, hash_key, authentication_key, encryption_key};
+ghost use Rattle.gf128.specs.Orders.{Serves};
+ghost use Rattle.aead.specs.Suites.{ByChaCha, construction_of};
+ghost use Rattle.aead.specs.Sealing.{Setting, Fits};
 ghost use Rattle.aead.specs.PassStates.{IsHashKey, IsSumOf};
-ghost use Rattle.aead.specs.Code.States.{HeldByPoly, HeldByGhash, HeldByPolyval};
+ghost use Rattle.aead.specs.Code.States.{HeldByPoly, HeldByBlocks, block_key, digest_over};
 
 use crate::derived_keys::joined;
-use aes::AesKey;
-use gf128::{Ghash, Multiply, Polyval};
-use octets::{Block, Nonce, Order, Stream, Tag, be_pair, xor_into, xored};
+use crate::rule::Rule;
+use gf128::{BlockHash, Multiply};
+use octets::{Block, Order, Stream};
 use poly1305::Poly;
+use std::marker::PhantomData;
 
-// The hash of a construction under the keys of a message, and the tag that it ends in.
+// The hash of a construction under the keys of a message.
 pub(crate) trait TagHash: Drop {
     // The hash holds this text under the keys of a message.
     ghost held: { Self → Setting → List ℕ → Type 0 };
@@ -60,19 +60,11 @@ pub(crate) trait TagHash: Drop {
             → result.now ≡ drop (length m / 16 * 16) m }
         ensures short { length result.now < 16 };
 
-    // Pads the bytes after the associated data, takes in both lengths, and returns the tag. The hash must not be used
-    // afterwards.
-    fn tag_with_lengths(&mut self, aad_length: u64, bytes_length: u64) -> Tag
+    // Pads the bytes after the associated data, takes in both lengths, and returns the hash, of which the tag is made. The state must
+    // not be used afterwards.
+    fn digest(&mut self, aad_length: u64, bytes_length: u64) -> Block
         ensures { (s : Setting) (m : List ℕ) → held self.old s (pad16 s.aad ++ m) → Fits s m
-            → aad_length ≡ length s.aad
-            → bytes_length ≡ length m → result ≡ tag_over s.suite s.key s.nonce s.aad m };
-}
-
-// Returns the number of bits in `bytes` bytes.
-fn bits(bytes: u64) -> u64
-    ensures { bytes < 2 ^ 61 → result ≡ 8 * bytes }
-{
-    bytes.wrapping_mul(8)
+            → aad_length ≡ length s.aad → bytes_length ≡ length m → result ≡ digest_over s m };
 }
 
 // Poly1305; the lengths are in bytes (RFC 8439, 2.8).
@@ -99,114 +91,38 @@ impl TagHash for Poly {
         self.rest()
     }
 
-    fn tag_with_lengths(&mut self, aad_length: u64, bytes_length: u64) -> Tag {
+    fn digest(&mut self, aad_length: u64, bytes_length: u64) -> Block {
         self.pad16_and_add(&joined(&aad_length.to_le_bytes(), &bytes_length.to_le_bytes()));
-        self.tag()
+        Block::new(*self.tag().bytes())
     }
 }
 
-// GHASH, and the encrypted block J0; the lengths are in bits (SP 800-38D, 7.1).
-#[derive(Drop)]
-pub(crate) struct GhashTag<M> {
-    pub(crate) hash: Ghash<M>,
-    pub(crate) mask: Block,
-}
-
-impl<M: Multiply> TagHash for GhashTag<M> {
-    ghost held = { HeldByGhash M.key_bytes };
+// GHASH and POLYVAL.
+impl<M: Multiply, R: Rule> TagHash for BlockHash<M, R> {
+    ghost held = { HeldByBlocks R.Count.by R.order M.key_bytes };
 
     #[inline(always)]
     fn take_in(&mut self, bytes: &[u8]) {
-        self.hash.update(bytes);
+        self.update(bytes);
     }
 
     fn pad(&mut self) {
-        self.hash.pad16();
+        self.pad16();
     }
 
     fn sum(&self) -> (u128, u64) {
-        (self.hash.sum(), 0)
+        (self.sum(), 0)
     }
 
     fn rest(&self) -> &[u8] {
-        self.hash.rest()
+        self.rest()
     }
 
-    fn tag_with_lengths(&mut self, aad_length: u64, bytes_length: u64) -> Tag {
-        let (first, second) = (bits(aad_length), bits(bytes_length));
-        self.hash.pad16_and_add(&be_pair(first, second));
-        Tag::new(xored(self.mask.bytes(), self.hash.hash().bytes()))
-    }
-}
-
-// Returns the block that is encrypted to the tag (RFC 8452, 4).
-fn tag_block(hash: &[u8; 16], nonce: &[u8; 12]) -> [u8; 16]
-    ensures { result ≡ tag_block hash.now nonce.now }
-{
-    let mut block = *hash;
-    xor_into(&mut block[..12], nonce);
-    block[15] &= 0x7f;
-    block
-}
-
-// The cipher that the tag of AES-GCM-SIV is made by. It is a type parameter of the hash, since the prover takes no struct that has a
-// lifetime beside a hash of another crate.
-pub(crate) trait TagCipher: Drop {
-    // The key's bytes.
-    ghost key: { Self → List ℕ };
-
-    // Returns the cipher of a block.
-    fn encrypt(&self, block: &Block) -> Block
-        ensures { result ≡ cipher (key self.now) block.now };
-}
-
-impl TagCipher for &AesKey {
-    ghost key = { λ k. k.now };
-
-    #[inline(always)]
-    fn encrypt(&self, block: &Block) -> Block {
-        (*self).encrypt_in_registers(block)
+    fn digest(&mut self, aad_length: u64, bytes_length: u64) -> Block {
+        self.pad16_and_add(&R::lengths(aad_length, bytes_length));
+        self.hash()
     }
 }
-
-// POLYVAL, the encryption key and the nonce; the lengths are in bits (RFC 8452, 4).
-#[derive(Drop)]
-pub(crate) struct PolyvalTag<M, K> {
-    pub(crate) hash: Polyval<M>,
-    pub(crate) key: K,
-    pub(crate) nonce: Nonce,
-}
-
-impl<M: Multiply, K: TagCipher> TagHash for PolyvalTag<M, K> {
-    ghost held = { HeldByPolyval M.key_bytes K.key };
-
-    #[inline(always)]
-    fn take_in(&mut self, bytes: &[u8]) {
-        self.hash.update(bytes);
-    }
-
-    fn pad(&mut self) {
-        self.hash.pad16();
-    }
-
-    fn sum(&self) -> (u128, u64) {
-        (self.hash.sum(), 0)
-    }
-
-    fn rest(&self) -> &[u8] {
-        self.hash.rest()
-    }
-
-    fn tag_with_lengths(&mut self, aad_length: u64, bytes_length: u64) -> Tag {
-        let (first, second) = (bits(aad_length), bits(bytes_length));
-        self.hash
-            .pad16_and_add(&joined(&first.to_le_bytes(), &second.to_le_bytes()));
-        let block = tag_block(self.hash.hash().bytes(), self.nonce.bytes());
-        Tag::new(*self.key.encrypt(&Block::new(block)).bytes())
-    }
-}
-
-// ---- a hash made again from numbers
 
 // The keys of a hash, by which it is made again from plain numbers.
 pub(crate) trait HashKeys {
@@ -238,41 +154,31 @@ impl HashKeys for PolyKeys {
     }
 }
 
-// A multiplier by the key of GHASH. The encrypted block J0 is among the numbers.
+// A multiplier that serves GHASH or POLYVAL.
 #[derive(Drop)]
-pub(crate) struct GhashKeys<'a, M> {
-    pub(crate) multiplier: &'a M,
+pub(crate) struct BlockKeys<'a, M, R> {
+    multiplier: &'a M,
+    rule: PhantomData<R>,
 }
 
-impl<'a, M: Multiply> HashKeys for GhashKeys<'a, M> {
-    type Hash = GhashTag<&'a M>;
-
-    ghost serves = { λ k s. (construction_of s.suite ≡ ByGcm)
-        × (M.key_bytes k.multiplier.now ≡ hash_key s.key) };
-
+impl<'a, M, R> BlockKeys<'a, M, R> {
+    // The keys with this multiplier.
     #[inline(always)]
-    fn resumed(&self, hash_key: &[u8; 32], low: u128, _high: u64, rest: &[u8]) -> GhashTag<&'a M> {
-        GhashTag {
-            hash: Ghash::resumed(self.multiplier, low, rest),
-            mask: last_block(hash_key),
+    pub(crate) fn by(multiplier: &'a M) -> BlockKeys<'a, M, R>
+        ensures { result.multiplier.now ≡ multiplier.now }
+    {
+        BlockKeys {
+            multiplier,
+            rule: PhantomData,
         }
     }
 }
 
-// A multiplier by the key of POLYVAL, with the encryption key and the nonce.
-#[derive(Drop)]
-pub(crate) struct PolyvalKeys<'a, M> {
-    pub(crate) multiplier: &'a M,
-    pub(crate) key: &'a AesKey,
-    pub(crate) nonce: &'a Nonce,
-}
+impl<'a, M: Multiply, R: Rule> HashKeys for BlockKeys<'a, M, R> {
+    type Hash = BlockHash<&'a M, R>;
 
-impl<'a, M: Multiply> HashKeys for PolyvalKeys<'a, M> {
-    type Hash = PolyvalTag<&'a M, &'a AesKey>;
-
-    ghost serves = { λ k s. (construction_of s.suite ≡ ByGcmSiv)
-        × (Serves Reversed (authentication_key s.key s.nonce) (M.key_bytes k.multiplier.now))
-        × (k.key.now ≡ encryption_key s.key s.nonce) × (k.nonce.now ≡ s.nonce) };
+    ghost serves = { λ k s. (construction_of s.suite ≡ R.Count.by)
+        × Serves R.order (block_key R.Count.by s) (M.key_bytes k.multiplier.now) };
 
     #[inline(always)]
     fn resumed(
@@ -281,13 +187,18 @@ impl<'a, M: Multiply> HashKeys for PolyvalKeys<'a, M> {
         low: u128,
         _high: u64,
         rest: &[u8],
-    ) -> PolyvalTag<&'a M, &'a AesKey> {
-        PolyvalTag {
-            hash: Polyval::resumed(self.multiplier, low, rest),
-            key: self.key,
-            nonce: *self.nonce,
-        }
+    ) -> BlockHash<&'a M, R> {
+        BlockHash::resumed(self.multiplier, low, rest)
     }
+}
+
+// Returns the first 16 bytes.
+pub(crate) fn first_block(bytes: &[u8; 32]) -> Block
+    ensures { result ≡ take 16 bytes.now }
+{
+    let mut first = [0; 16];
+    first.copy_from_slice(&bytes[..16]);
+    Block::new(first)
 }
 
 // Returns the last 16 bytes.

@@ -21,8 +21,9 @@ use crate::hashes::PolyKeys;
 use crate::keys::{AesKeys, CipherKeys, KeyBytes, MessageKeys};
 use crate::pass_state::PassState;
 use crate::suite::{Construction, Suite};
-use crate::{gcm_pass, siv_pass};
+use crate::{aes_pass, gcm, gcm_siv};
 use aes::AesKey;
+use gf128::{GhashOrder, PolyvalOrder};
 use octets::{Block, Fault, Key32, Nonce};
 
 /// The key and the nonce of a message as plain numbers, 44 bytes. Each number may have any value.
@@ -134,7 +135,10 @@ impl KeyAndNonce {
         ensures { HasBegun self.new state.new (setting_of suite key.now nonce.now aad.now) }
     {
         *self = KeyAndNonce::of(key, nonce);
-        *state = gcm_pass::initial_state_by_key(cipher, ghash_key, nonce, aad);
+        *state = aes_pass::initial_state::<GhashOrder>(
+            gcm::hash_keys(cipher, ghash_key, nonce),
+            aad,
+        );
     }
 
     // Begins a pass under AES-GCM, from the bytes of a key.
@@ -183,7 +187,7 @@ impl KeyAndNonce {
             → HasBegun self.new state.new s }
     {
         *self = KeyAndNonce::of(key, nonce);
-        *state = siv_pass::initial_state_by_key(key, hash_key, nonce, aad);
+        *state = aes_pass::initial_state::<PolyvalOrder>(gcm_siv::hash_keys(hash_key), aad);
     }
 
     // Begins a pass under AES-GCM-SIV, from the key that the message's keys are derived from.

@@ -2,22 +2,24 @@
 //! lends the keys for a step: either a key schedule and a table of the hash key, or the bytes of the key.
 
 ghost use Rattle.std.specs.Prelude.{◌≡◌, ◌+◌, ◌-◌, ◌≤◌, ◌^◌, ◌++◌, ℕ, List, length, take};
-ghost use Rattle.aead.specs.Suites.{ByChaCha, construction_of, key_length, text_limit_by};
+ghost use Rattle.gf128.specs.Orders.{Reversed};
+ghost use Rattle.aead.specs.Suites.{ByChaCha, ByGcmSiv, construction_of, key_length, text_limit_by};
 ghost use Rattle.aead.specs.Sealing.{Setting, tag_over};
 ghost use Rattle.aead.specs.PassStates.{HoldsNumbers};
 ghost use Rattle.aead.specs.KeyedPasses.{authenticated_by, cipher_key};
+ghost use Rattle.aead.specs.Code.States.{digest_over};
 ghost use Rattle.aead.specs.Code.Masks.{hashed_by};
+ghost use Rattle.aead.specs.Code.MessageKeys.{AreAesKeys};
 ghost use Rattle.aead.specs.Code.PassSteps.{MasksPiece, MasksPieceKnowing, TakesPiece, ChecksPiece, OpensPiece};
 
-use crate::beside::Order;
 use crate::derived_keys::expanded;
 use crate::hashes::PolyKeys;
 use crate::pass_state::PassState;
 use crate::suite::{Construction, Suite};
-use crate::{chacha_poly, gcm_pass, siv_pass};
+use crate::{aes_pass, chacha_poly, gcm, gcm_siv};
 use aes::{AesKey, KnownBlock};
-use gf128::TableMul;
-use octets::{Key32, Nonce, Tag};
+use gf128::{GhashOrder, PolyvalOrder, TableMul};
+use octets::{Block, Key32, Nonce, Order, Tag};
 
 // The schedule of an AES key, with the small table of the hash key, for short pieces.
 #[derive(Drop, Clone, Copy)]
@@ -76,6 +78,29 @@ fn mask_chacha(state: &mut PassState, key: &[u8; 32], nonce: &Nonce, order: Orde
     state.step(&PolyKeys, &mut mask, order, piece);
 }
 
+// Returns the tag of a message of AES-GCM-SIV under the bytes of its encryption key. Only this call has the key schedule on its stack.
+#[inline(never)]
+fn siv_tag_anew(bytes: KeyBytes, nonce: &Nonce, digest: &Block) -> Tag
+    ensures { (s : Setting) (m : List ℕ) → construction_of s.suite ≡ ByGcmSiv
+        → AreAesKeys ByGcmSiv Reversed (AesKeys.Bytes bytes.entry) s → nonce.now ≡ s.nonce
+        → digest.now ≡ digest_over s m → result ≡ tag_over s.suite s.key s.nonce s.aad m }
+{
+    gcm_siv::encrypted_tag(&bytes.schedule(), nonce, digest)
+}
+
+// Returns the tag of a message of AES-GCM-SIV.
+#[inline(always)]
+fn siv_tag(keys: AesKeys, nonce: &Nonce, digest: &Block) -> Tag
+    ensures { (s : Setting) (m : List ℕ) → construction_of s.suite ≡ ByGcmSiv
+        → AreAesKeys ByGcmSiv Reversed keys.entry s → nonce.now ≡ s.nonce → digest.now ≡ digest_over s m
+        → result ≡ tag_over s.suite s.key s.nonce s.aad m }
+{
+    match keys {
+        AesKeys::Expanded(keys) => gcm_siv::encrypted_tag(keys.key, nonce, digest),
+        AesKeys::Bytes(bytes) => siv_tag_anew(bytes, nonce, digest),
+    }
+}
+
 impl<'a> MessageKeys<'a> {
     ghost use Rattle.aead.specs.Code.MessageKeys.{construction_by, AreKeysOf};
 
@@ -119,8 +144,12 @@ impl<'a> MessageKeys<'a> {
         let nonce = Nonce::new(self.nonce);
         match self.cipher {
             CipherKeys::ChaCha(key) => mask_chacha(state, key, &nonce, order, piece),
-            CipherKeys::Gcm(keys) => gcm_pass::mask(state, keys, &nonce, known, order, piece),
-            CipherKeys::Siv(keys) => siv_pass::mask(state, keys, &nonce, tag, known, order, piece),
+            CipherKeys::Gcm(keys) => {
+                aes_pass::mask::<GhashOrder>(state, keys, &nonce, tag, known, order, piece);
+            }
+            CipherKeys::Siv(keys) => {
+                aes_pass::mask::<PolyvalOrder>(state, keys, &nonce, tag, known, order, piece);
+            }
         }
     }
 
@@ -133,11 +162,8 @@ impl<'a> MessageKeys<'a> {
     {
         match self.cipher {
             CipherKeys::ChaCha(_) => state.take(&PolyKeys, piece),
-            CipherKeys::Gcm(keys) => gcm_pass::take(state, keys, piece),
-            CipherKeys::Siv(keys) => {
-                let nonce = Nonce::new(self.nonce);
-                siv_pass::take(state, keys, &nonce, piece);
-            }
+            CipherKeys::Gcm(keys) => aes_pass::take::<GhashOrder>(state, keys, piece),
+            CipherKeys::Siv(keys) => aes_pass::take::<PolyvalOrder>(state, keys, piece),
         }
     }
 
@@ -151,7 +177,7 @@ impl<'a> MessageKeys<'a> {
         match self.cipher {
             CipherKeys::Siv(keys) => {
                 let nonce = Nonce::new(self.nonce);
-                siv_pass::take_text(state, keys, &nonce, tag, piece);
+                aes_pass::take_text::<PolyvalOrder>(state, keys, &nonce, tag, piece);
             }
             _ => self.take(state, piece),
         }
@@ -192,11 +218,14 @@ impl<'a> MessageKeys<'a> {
             → result ≡ tag_over s.suite s.key s.nonce s.aad bytes }
     {
         match self.cipher {
-            CipherKeys::ChaCha(_) => state.tag(&PolyKeys),
-            CipherKeys::Gcm(keys) => gcm_pass::tag(state, keys),
+            CipherKeys::ChaCha(_) => chacha_poly::hash_as_tag(&state.digest(&PolyKeys)),
+            CipherKeys::Gcm(keys) => {
+                let digest = aes_pass::digest::<GhashOrder>(state, keys);
+                gcm::masked_tag(&state.tag_mask(), &digest)
+            }
             CipherKeys::Siv(keys) => {
-                let nonce = Nonce::new(self.nonce);
-                siv_pass::tag(state, keys, &nonce)
+                let digest = aes_pass::digest::<PolyvalOrder>(state, keys);
+                siv_tag(keys, &Nonce::new(self.nonce), &digest)
             }
         }
     }

@@ -5,10 +5,11 @@ ghost use Rattle.std.specs.Prelude.{◌≡◌, ◌+◌, ◌≤◌, ℕ, List, le
 ghost use Rattle.octets.specs.Masked.{masked};
 ghost use Rattle.aead.specs.Suites.{text_limit};
 ghost use Rattle.aead.specs.Sealing.{Setting, mask_of};
-ghost use Rattle.aead.specs.Code.States.{MadeByChaCha, MadeByGcm, MadeByGcmSiv};
-ghost use Rattle.aead.specs.Code.Masks.{Masks, chacha_masks, gcm_masks, siv_masks};
+ghost use Rattle.aead.specs.Suites.{Construction, ByGcm, ByGcmSiv};
+ghost use Rattle.aead.specs.Code.States.{MadeByChaCha, MadeByCounter};
+ghost use Rattle.aead.specs.Code.Masks.{Masks, IsMask, chacha_masks, gcm_mask, siv_mask, counter_masks};
 
-use aes::{CtrBe, CtrLe};
+use aes::{Count, Ctr, FirstFour, LastFour};
 use chacha::{ChaStream, RUN};
 use octets::Stream;
 
@@ -44,24 +45,35 @@ impl MaskStream for ChaStream {
     ghost masks = { chacha_masks };
 }
 
-// Under AES-GCM the mask is the counter stream from inc32(J0) on (SP 800-38D, 7.1).
-impl<'k> MaskStream for CtrBe<'k> {
-    ghost made = { MadeByGcm };
+// How the counter blocks of a construction with AES count.
+pub(crate) trait MaskCount: Count {
+    ghost by: { Construction };
 
-    fn pays_beside_a_hash(&self, _length: usize) -> bool {
-        false
-    }
-
-    ghost masks = { gcm_masks };
+    // The stream that counts so, from the construction's first counter block on, is the mask.
+    ghost is_mask: { IsMask by Self.up };
 }
 
-// Under AES-GCM-SIV the mask is the counter stream whose first block is made from the tag (RFC 8452, 4).
-impl<'k> MaskStream for CtrLe<'k> {
-    ghost made = { MadeByGcmSiv };
+// AES-GCM (SP 800-38D, 7.1).
+impl MaskCount for LastFour {
+    ghost by = { ByGcm };
+
+    ghost is_mask = { gcm_mask };
+}
+
+// AES-GCM-SIV (RFC 8452, 4).
+impl MaskCount for FirstFour {
+    ghost by = { ByGcmSiv };
+
+    ghost is_mask = { siv_mask };
+}
+
+// Under AES-GCM and AES-GCM-SIV the mask is a counter stream.
+impl<'k, C: MaskCount> MaskStream for Ctr<'k, C> {
+    ghost made = { MadeByCounter C.by C.up };
 
     fn pays_beside_a_hash(&self, _length: usize) -> bool {
         false
     }
 
-    ghost masks = { siv_masks };
+    ghost masks = { counter_masks C.by C.up C.is_mask };
 }

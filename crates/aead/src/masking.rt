@@ -2,13 +2,12 @@
 
 ghost use Rattle.std.specs.Prelude.{◌≡◌, ◌<◌, ◌≤◌, ◌^◌, ℕ, List, [], length};
 ghost use Rattle.aead.specs.Suites.{text_limit, aad_limit};
-ghost use Rattle.aead.specs.Sealing.{tag_over};
+ghost use Rattle.aead.specs.Code.States.{digest_over};
 
 use crate::authenticator::Authenticator;
-use crate::beside::Order;
 use crate::hashes::TagHash;
 use crate::mask::MaskStream;
-use octets::Tag;
+use octets::{Block, Order};
 
 // The mask and the authenticator of a message. Each piece is masked in place and authenticated, in the order of the message:
 // before it is masked or after.
@@ -59,12 +58,11 @@ impl<S: MaskStream, H: TagHash> Masking<S, H> {
         self.authenticator.begin(aad);
     }
 
-    // Returns the tag of all pieces, and consumes the state.
+    // Returns the hash of all pieces, of which the tag is made, and consumes the state.
     #[inline(always)]
-    pub(crate) fn finish(self) -> Tag
+    pub(crate) fn finish(self) -> Block
         ensures { (t : Task) (fed : List ℕ) → HoldsMasking S.made H.held t self fed
-            → result ≡ tag_over t.setting.suite t.setting.key t.setting.nonce t.setting.aad
-            (hashed_by t.order (task_mask t) fed) }
+            → result ≡ digest_over t.setting (hashed_by t.order (task_mask t) fed) }
     {
         self.authenticator.finish()
     }

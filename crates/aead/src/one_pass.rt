@@ -4,40 +4,24 @@ ghost use Rattle.std.specs.Prelude.{◌≡◌, ◌<◌, ◌≤◌, ◌++◌, ℕ
 ghost use Rattle.aead.specs.Suites.{construction_of, is_one_pass, text_limit, aad_limit};
 ghost use Rattle.octets.specs.Masked.{masked};
 ghost use Rattle.aead.specs.Sealing.{Opened, mask_of};
-ghost use Rattle.aead.specs.Ciphers.{Keyed, setting};
+ghost use Rattle.aead.specs.Ciphers.{setting};
 ghost use Rattle.aead.specs.Refusals.{OpenRefused};
 ghost use Rattle.aead.specs.InPlace.{OpensInPlace};
 
 use crate::authenticator::Authenticator;
-use crate::beside::{Order, step};
-use crate::hashes::TagHash;
 use crate::mask::MaskStream;
-use crate::suite::Suite;
-use octets::{Fault, Tag, same};
+use crate::message::Message;
+use crate::step::step;
+use octets::{Fault, Order, Tag, same};
 
-// A message under a cipher and a nonce: it gives the mask of its text, and the hash of its ciphertext.
-pub(crate) trait OnePass {
-    type Stream: MaskStream;
-
-    type Hash: TagHash;
-
-    ghost keyed: { Self → Keyed };
-
-    ghost nonce: { Self → List ℕ };
-
-    fn suite(&self) -> Suite
-        ensures { result ≡ (keyed self.now).suite };
-
-    // Returns the hash that ends in the tag, before any byte is taken in.
-    fn hash(&self) -> Self::Hash
-        ensures { (aad : List ℕ) → Self.Hash.held result (setting (keyed self.now) (nonce self.now) aad) [] };
-
-    // Returns the mask, which does not depend on the tag.
+// A message whose mask does not depend on the tag.
+pub(crate) trait OnePass: Message {
+    // Returns the mask.
     fn mask(&self) -> Self::Stream
         ensures { (aad tag : List ℕ)
-            → Self.Stream.made result (setting (keyed self.now) (nonce self.now) aad) tag 0 };
+            → Self.Stream.made result (setting (Self.keyed self.now) (Self.nonce self.now) aad) tag 0 };
 
-    ghost one_pass: { (n : Self) → is_one_pass (construction_of (keyed n).suite) ≡ true };
+    ghost one_pass: { (n : Self) → is_one_pass (construction_of (Self.keyed n).suite) ≡ true };
 }
 
 // Does nothing when it runs. It tells the proof of its caller that each byte of a slice is below 256.
@@ -57,7 +41,7 @@ pub(crate) fn seal_whole<N: OnePass>(message: &N, aad: &[u8], text: &mut [u8]) -
     let mut authenticator = Authenticator::empty(message.hash());
     authenticator.begin(aad);
     step(Order::MaskFirst, &mut mask, &mut authenticator, text);
-    authenticator.tag()
+    message.tag(&authenticator.digest())
 }
 
 // Authenticates a ciphertext, and then decrypts it in place. If authentication fails, every byte is as it was.
@@ -76,7 +60,7 @@ pub(crate) fn open_whole<N: OnePass>(
     let mut authenticator = Authenticator::empty(message.hash());
     authenticator.begin(aad);
     authenticator.update(body);
-    if !same(authenticator.tag().bytes(), given) {
+    if !same(message.tag(&authenticator.digest()).bytes(), given) {
         return Err(Fault::TagMismatch);
     }
     message.mask().apply_to(body);
@@ -102,7 +86,7 @@ pub(crate) fn open_beside<N: OnePass>(
     let mut authenticator = Authenticator::empty(message.hash());
     authenticator.begin(aad);
     step(Order::HashFirst, &mut mask, &mut authenticator, body);
-    if same(authenticator.tag().bytes(), given) {
+    if same(message.tag(&authenticator.digest()).bytes(), given) {
         Ok(())
     } else {
         Err(Fault::TagMismatch)

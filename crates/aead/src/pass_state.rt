@@ -1,23 +1,23 @@
 //! The state of a pass over a message as plain numbers: the sum of its hash, the bytes after the last whole block, and both
 //! lengths. It is what a caller saves, and what a caller in C has in its own memory.
 
-ghost use Rattle.std.specs.Prelude.{◌≡◌, ◌↔◌, ◌+◌, ◌*◌, ◌<◌, ◌≤◌, ◌^◌, ◌++◌, ℕ, List, [], length, take, true, false};
+ghost use Rattle.std.specs.Prelude.{◌≡◌, ◌↔◌, ◌+◌, ◌*◌, ◌<◌, ◌≤◌, ◌^◌, ◌++◌, ℕ, List, [], length, take, drop, true, false};
 ghost use Rattle.std.specs.Prelude.{MatchResult, OnErr};
 ghost use Rattle.octets.specs.Bytes.{IsBlock, pad16};
 ghost use Rattle.octets.specs.Masked.{masked};
 ghost use Rattle.aead.specs.Suites.{construction_of, is_one_pass, text_limit, text_limit_by, aad_limit};
-ghost use Rattle.aead.specs.Sealing.{Setting, mask_of, tag_of, tag_over};
+ghost use Rattle.aead.specs.Sealing.{Setting, mask_of, tag_of};
 ghost use Rattle.aead.specs.Refusals.{FitsIn, SealRefused};
-ghost use Rattle.aead.specs.Code.States.{HoldsAuthenticator};
+ghost use Rattle.aead.specs.Code.States.{HoldsAuthenticator, digest_over};
 
 use crate::authenticator::Authenticator;
-use crate::beside::{Order, step};
-use crate::hashes::{HashKeys, TagHash};
+use crate::hashes::{HashKeys, TagHash, first_block, last_block};
 use crate::keys::MessageKeys;
 use crate::mask::MaskStream;
+use crate::step::step;
 use crate::text_parts::take_text;
 use aes::KnownBlock;
-use octets::{Block, Fault, Tag};
+use octets::{Block, Fault, Order, Tag};
 
 // 2^64.
 const WORD: u128 = 0x1_0000_0000_0000_0000;
@@ -144,9 +144,14 @@ impl PassState {
     pub(crate) fn multiplier_key(&self) -> Block
         ensures { result ≡ take 16 self.now.hash_key }
     {
-        let mut first = [0; 16];
-        first.copy_from_slice(&self.hash_key[..16]);
-        Block::new(first)
+        first_block(&self.hash_key)
+    }
+
+    // The block that the tag of AES-GCM is masked with: the cipher of J0.
+    pub(crate) fn tag_mask(&self) -> Block
+        ensures { result ≡ drop 16 self.now.hash_key }
+    {
+        last_block(&self.hash_key)
     }
 
     // Whether both states have the same hash key. This verdict is public: a caller that resumes a state learns whether it belongs to
@@ -251,11 +256,11 @@ impl PassState {
         *self = PassState::of(self.hash_key, &authenticator);
     }
 
-    // Returns the tag of what was authenticated.
+    // Returns the hash of what was authenticated, of which the tag is made.
     #[inline(never)]
-    pub(crate) fn tag<K: HashKeys>(&self, keys: &K) -> Tag
+    pub(crate) fn digest<K: HashKeys>(&self, keys: &K) -> Block
         ensures { (s : Setting) (bytes : List ℕ) → K.serves keys.now s → HoldsNumbers self.now s bytes
-            → result ≡ tag_over s.suite s.key s.nonce s.aad bytes }
+            → result ≡ digest_over s bytes }
     {
         self.authenticator(keys).finish()
     }

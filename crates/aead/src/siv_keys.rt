@@ -6,12 +6,12 @@ ghost use Rattle.aead.specs.Sealing.{Setting};
 ghost use Rattle.aead.specs.Ciphers.{setting};
 ghost use Rattle.aead.specs.PassStates.{HasHashKey, HoldsNone, HoldsNumbers};
 
-use crate::gcm_siv::GcmSiv;
+use crate::aes_pass;
+use crate::gcm_siv::{GcmSiv, hash_keys};
 use crate::keys::{AesKeys, CipherKeys, ExpandedKey, MessageKeys};
 use crate::pass_state::PassState;
-use crate::siv_pass;
 use aes::AesKey;
-use gf128::{Keyed128, TableMul};
+use gf128::{Keyed128, PolyvalOrder, TableMul};
 use octets::{Block, Fault, Nonce};
 
 // The keys of a message and its nonce.
@@ -90,6 +90,6 @@ impl SivKeys {
         ensures { (s : Setting) → AreKeys self.now s → s.aad ≡ aad.now → length aad.now ≤ aad_limit s.suite
             → HoldsNumbers result s [] }
     {
-        siv_pass::initial_state(self.expanded(), &self.hash_key, &self.nonce, aad)
+        aes_pass::initial_state::<PolyvalOrder>(hash_keys(&self.hash_key), aad)
     }
 }

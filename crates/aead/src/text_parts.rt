@@ -5,9 +5,10 @@ ghost use Rattle.std.specs.Prelude.{◌≡◌, ◌+◌, ◌<◌, ◌≤◌, ◌^
 ghost use Rattle.aead.specs.Code.Masks.{TakesText};
 
 use crate::authenticator::Authenticator;
-use crate::beside::{Order, step};
 use crate::hashes::TagHash;
 use crate::mask::MaskStream;
+use crate::step::step;
+use octets::Order;
 
 // The length of the buffer in bytes.
 const PART: usize = 2048;

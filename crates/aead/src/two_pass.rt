@@ -3,39 +3,23 @@
 ghost use Rattle.std.specs.Prelude.{◌≡◌, ◌≤◌, ◌++◌, ℕ, List, [], length};
 ghost use Rattle.aead.specs.Suites.{ByGcmSiv, construction_of, text_limit, aad_limit};
 ghost use Rattle.aead.specs.Sealing.{Opened};
-ghost use Rattle.aead.specs.Ciphers.{Keyed, setting};
+ghost use Rattle.aead.specs.Ciphers.{setting};
 ghost use Rattle.aead.specs.InPlace.{OpensInPlace};
 
 use crate::authenticator::Authenticator;
-use crate::beside::{Order, step};
-use crate::hashes::TagHash;
 use crate::mask::MaskStream;
-use crate::suite::Suite;
-use octets::{Fault, Tag, same};
+use crate::message::Message;
+use crate::step::step;
+use octets::{Fault, Order, Tag, same};
 
-// A message under a cipher and a nonce: it gives the hash of its text, and the mask that begins with the tag.
-pub(crate) trait TwoPass {
-    type Stream: MaskStream;
-
-    type Hash: TagHash;
-
-    ghost keyed: { Self → Keyed };
-
-    ghost nonce: { Self → List ℕ };
-
-    fn suite(&self) -> Suite
-        ensures { result ≡ (keyed self.now).suite };
-
-    // Returns the hash that ends in the tag, before any byte is taken in.
-    fn hash(&self) -> Self::Hash
-        ensures { (aad : List ℕ) → Self.Hash.held result (setting (keyed self.now) (nonce self.now) aad) [] };
-
+// A message whose mask begins with its tag.
+pub(crate) trait TwoPass: Message {
     // Returns the mask of the message with this tag.
     fn mask(&self, tag: &Tag) -> Self::Stream
         ensures { (aad : List ℕ)
-            → Self.Stream.made result (setting (keyed self.now) (nonce self.now) aad) tag.now 0 };
+            → Self.Stream.made result (setting (Self.keyed self.now) (Self.nonce self.now) aad) tag.now 0 };
 
-    ghost by_gcm_siv: { (n : Self) → construction_of (keyed n).suite ≡ ByGcmSiv };
+    ghost by_gcm_siv: { (n : Self) → construction_of (Self.keyed n).suite ≡ ByGcmSiv };
 }
 
 // Authenticates a text, then encrypts it in place under its tag, and returns the tag.
@@ -48,7 +32,7 @@ pub(crate) fn seal_whole<N: TwoPass>(message: &N, aad: &[u8], text: &mut [u8]) -
     let mut authenticator = Authenticator::empty(message.hash());
     authenticator.begin(aad);
     authenticator.update(text);
-    let tag = authenticator.tag();
+    let tag = message.tag(&authenticator.digest());
     message.mask(&tag).apply_to(text);
     tag
 }
@@ -71,7 +55,7 @@ pub(crate) fn open_whole<N: TwoPass>(
     let mut authenticator = Authenticator::empty(message.hash());
     authenticator.begin(aad);
     step(Order::MaskFirst, &mut mask, &mut authenticator, body);
-    if same(authenticator.tag().bytes(), given) {
+    if same(message.tag(&authenticator.digest()).bytes(), given) {
         return Ok(());
     }
     message.mask(tag).apply_to(body);

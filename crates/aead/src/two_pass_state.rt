@@ -9,11 +9,10 @@ ghost use Rattle.aead.specs.Sealing.{Setting, IsNoSealing, mask_of, tag_of};
 ghost use Rattle.aead.specs.Refusals.{FitsIn, SealRefused};
 ghost use Rattle.aead.specs.PassStates.{HoldsNumbers, IsStart};
 
-use crate::beside::Order;
 use crate::keys::MessageKeys;
 use crate::pass_state::{PassState, Sum};
 use aes::KnownBlock;
-use octets::{Fault, Tag, same};
+use octets::{Fault, Order, Tag, same};
 
 /// The state of a sealing in two readings under AES-GCM-SIV, or of an opening in two passes under any suite, as plain numbers,
 /// without the message's key and nonce. Each number may have any value.

@@ -7,9 +7,10 @@ use Rattle.chacha.specs.Code.States as chacha
 use Rattle.aes.specs.declared.counter.Ctr.{Ctr}
 use Rattle.aes.specs.Code.Streams.{Did}
 use Rattle.aead.specs.Suites.{text_limit, text_limit_by}
-use Rattle.aead.specs.Suites.{ByChaCha, ByGcm, ByGcmSiv, construction_of}
+use Rattle.aead.specs.Suites.{Construction, ByChaCha, ByGcm, ByGcmSiv, construction_of}
+use Rattle.aead.specs.KeyedPasses.{cipher_key}
 use Rattle.aead.specs.Sealing.{Setting, j0, encryption_key, counter_block, mask, mask_by, mask_of}
-use Rattle.aead.specs.Code.States.{MadeByChaCha, MadeByGcm, MadeByGcmSiv, HoldsAuthenticator}
+use Rattle.aead.specs.Code.States.{MadeByChaCha, MadeByCounter, first_counter, HoldsAuthenticator}
 use Rattle.aead.specs.declared.authenticator.Authenticator.{Authenticator}
 use Rattle.octets.specs.declared.work.Order.{Order}
 use Rattle.octets.specs.declared.work.Order.TheVariants.{MaskFirst, HashFirst}
@@ -78,12 +79,12 @@ pub chacha_mask : (s : Setting) (tag : List ℕ) → construction_of s.suite ≡
 unfolding mask mask_by
 chacha_mask s tag e = ap (λ by. mask_by by s.key s.nonce tag) e
 
-gcm_mask : (s : Setting) (tag : List ℕ) → construction_of s.suite ≡ ByGcm
+pub gcm_mask : (s : Setting) (tag : List ℕ) → construction_of s.suite ≡ ByGcm
     → mask_of s tag ≡ counter_byte up_be s.key (up_be (j0 s.nonce) 1)
 unfolding mask mask_by
 gcm_mask s tag e = ap (λ by. mask_by by s.key s.nonce tag) e
 
-siv_mask : (s : Setting) (tag : List ℕ) → construction_of s.suite ≡ ByGcmSiv
+pub siv_mask : (s : Setting) (tag : List ℕ) → construction_of s.suite ≡ ByGcmSiv
     → mask_of s tag ≡ counter_byte up_le (encryption_key s.key s.nonce) (counter_block tag)
 unfolding mask mask_by
 siv_mask s tag e = ap (λ by. mask_by by s.key s.nonce tag) e
@@ -97,14 +98,13 @@ chacha_masks a b was now did = λ s tag n h room.
       applied.masked_is ∙ sym (ap (λ f. masked f n was) (chacha_mask s tag h.0)),
     )
 
-pub gcm_masks : {C : Type 0} (a b : Ctr C) (was now : List ℕ) → Did up_be a b was now
-    → Masks MadeByGcm a b was now
-gcm_masks a b was now did = λ s tag n h room.
-    let applied = did _ _ n h.1 in
-    ((h.0, applied.0), applied.1 ∙ sym (ap (λ f. masked f n was) (gcm_mask s tag h.0)))
+-- a counter stream gives the mask of the messages of this construction
+abbrev pub IsMask : Construction → (up : List ℕ → ℕ → List ℕ) → Type 0
+IsMask by up = (s : Setting) (tag : List ℕ) → construction_of s.suite ≡ by
+    → mask_of s tag ≡ counter_byte up (cipher_key by s) (first_counter by s.nonce tag)
 
-pub siv_masks : {C : Type 0} (a b : Ctr C) (was now : List ℕ) → Did up_le a b was now
-    → Masks MadeByGcmSiv a b was now
-siv_masks a b was now did = λ s tag n h room.
+pub counter_masks : {C : Type 0} (by : Construction) (up : List ℕ → ℕ → List ℕ) → IsMask by up → (a b : Ctr C)
+    (was now : List ℕ) → Did up a b was now → Masks (MadeByCounter by up) a b was now
+counter_masks by up is a b was now did = λ s tag n h room.
     let applied = did _ _ n h.1 in
-    ((h.0, applied.0), applied.1 ∙ sym (ap (λ f. masked f n was) (siv_mask s tag h.0)))
+    ((h.0, applied.0), applied.1 ∙ sym (ap (λ f. masked f n was) (is s tag h.0)))

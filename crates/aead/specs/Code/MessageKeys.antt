@@ -1,6 +1,6 @@
 -- The keys of a message, as the steps of a pass find them.
 use Rattle.std.specs.Prelude.{◌≡◌, take}
-use Rattle.gf128.specs.Orders.{Reversed, Serves}
+use Rattle.gf128.specs.Orders.{Order, Straight, Reversed, Serves}
 use Rattle.gf128.specs.Code.States.{key_of}
 use Rattle.aead.specs.declared.keys.AesKeys.{AesKeys}
 use Rattle.aead.specs.declared.keys.AesKeys.TheVariants.{Expanded, Bytes}
@@ -8,7 +8,9 @@ use Rattle.aead.specs.declared.keys.CipherKeys.{CipherKeys}
 use Rattle.aead.specs.declared.keys.CipherKeys.TheVariants.{ChaCha, Gcm, Siv}
 use Rattle.aead.specs.declared.keys.MessageKeys.{MessageKeys}
 use Rattle.aead.specs.Suites.{Construction, ByChaCha, ByGcm, ByGcmSiv, construction_of, key_length}
-use Rattle.aead.specs.Sealing.{Setting, hash_key, authentication_key, encryption_key}
+use Rattle.aead.specs.Sealing.{Setting}
+use Rattle.aead.specs.KeyedPasses.{cipher_key}
+use Rattle.aead.specs.Code.States.{block_key}
 
 -- the construction that the keys are for
 abbrev pub construction_by : CipherKeys → Construction
@@ -16,23 +18,17 @@ construction_by (ChaCha key) = ByChaCha
 construction_by (Gcm keys) = ByGcm
 construction_by (Siv keys) = ByGcmSiv
 
--- the AES keys of a message of AES-GCM: the key schedule and multiples of the hash key, or the bytes of the key
-abbrev pub AreGcmKeys : AesKeys → Setting → Type 0
-AreGcmKeys (Expanded k) s = (k.key.now ≡ s.key) × (key_of k.few.now ≡ hash_key s.key)
-AreGcmKeys (Bytes b) s = take (key_length b.suite) b.key.now ≡ s.key
-
--- the AES keys of a message of AES-GCM-SIV: those of the encryption key, and multiples that serve POLYVAL, or the key's bytes
-abbrev pub AreSivKeys : AesKeys → Setting → Type 0
-AreSivKeys (Expanded k) s =
-    (k.key.now ≡ encryption_key s.key s.nonce)
-    × Serves Reversed (authentication_key s.key s.nonce) (key_of k.few.now)
-AreSivKeys (Bytes b) s = take (key_length b.suite) b.key.now ≡ encryption_key s.key s.nonce
+-- the AES keys of a message: the schedule of the key that its text is encrypted with, and multiples that serve its hash; or the key's
+-- bytes
+abbrev pub AreAesKeys : Construction → Order → AesKeys → Setting → Type 0
+AreAesKeys by order (Expanded k) s = (k.key.now ≡ cipher_key by s) × Serves order (block_key by s) (key_of k.few.now)
+AreAesKeys by order (Bytes b) s = take (key_length b.suite) b.key.now ≡ cipher_key by s
 
 -- the keys of the cipher are those of a message, for each construction
 abbrev pub AreCipherKeys : CipherKeys → Setting → Type 0
 AreCipherKeys (ChaCha key) s = key.now ≡ s.key
-AreCipherKeys (Gcm keys) s = AreGcmKeys keys s
-AreCipherKeys (Siv keys) s = AreSivKeys keys s
+AreCipherKeys (Gcm keys) s = AreAesKeys ByGcm Straight keys s
+AreCipherKeys (Siv keys) s = AreAesKeys ByGcmSiv Reversed keys s
 
 -- k holds the keys of a message, and its nonce
 pub record AreKeysOf (k : MessageKeys) (s : Setting) : Type 0 where

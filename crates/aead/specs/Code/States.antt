@@ -1,22 +1,48 @@
 -- The contents of the parts of a message's state.
-use Rattle.std.specs.Prelude.{◌≡◌, ℕ, List, ◌++◌, length}
+use Rattle.std.specs.Prelude.{◌≡◌, ℕ, List, [], ◌++◌, length}
 use Rattle.octets.specs.Bytes.{pad16}
 use Rattle.chacha.specs.declared.stream.ChaStream.{ChaStream}
 use Rattle.chacha.specs.Code.States as chacha
+use Rattle.poly1305.specs.Poly1305.{poly1305}
 use Rattle.poly1305.specs.declared.poly.PolyBy.{PolyBy}
 use Rattle.poly1305.specs.declared.word_mul.WordMul.{WordMul}
 use Rattle.poly1305.specs.Code.States as poly1305
 use Rattle.aes.specs.declared.counter.Ctr.{Ctr}
-use Rattle.aes.specs.Cipher.{cipher}
-use Rattle.aes.specs.Counters.{up_be, up_le}
+use Rattle.aes.specs.Counters.{up_be}
 use Rattle.aes.specs.Code.Streams.{Holds}
+use Rattle.gf128.specs.Ghash.{ghash}
+use Rattle.gf128.specs.Polyval.{polyval}
+use Rattle.gf128.specs.Orders.{Order}
+use Rattle.gf128.specs.declared.hash.BlockHash.{BlockHash}
 use Rattle.gf128.specs.Code.States as gf128
-use Rattle.aead.specs.declared.hashes.GhashTag.{GhashTag}
-use Rattle.aead.specs.declared.hashes.PolyvalTag.{PolyvalTag}
 use Rattle.aead.specs.declared.authenticator.Authenticator.{Authenticator}
-use Rattle.aead.specs.Suites.{ByChaCha, ByGcm, ByGcmSiv, construction_of}
-use Rattle.aead.specs.Sealing.{Setting, Fits, poly_key, hash_key, j0, authentication_key}
-use Rattle.aead.specs.Sealing.{encryption_key, counter_block}
+use Rattle.aead.specs.Suites.{Construction, ByChaCha, ByGcm, ByGcmSiv, construction_of}
+use Rattle.aead.specs.Sealing.{Setting, Fits, poly_key, hash_key, j0, authentication_key, counter_block}
+use Rattle.aead.specs.Sealing.{chacha_authenticated, gcm_authenticated, siv_authenticated}
+use Rattle.aead.specs.KeyedPasses.{cipher_key}
+
+-- ---- what the hash and the mask of a message begin with, and what the hash ends in
+
+-- the key of the hash of a message
+abbrev pub block_key : Construction → Setting → List ℕ
+block_key ByChaCha s = poly_key s.key s.nonce
+block_key ByGcm s = hash_key s.key
+block_key ByGcmSiv s = authentication_key s.key s.nonce
+
+-- the first counter block of the mask of a message: inc32(J0), or the block that the tag of GCM-SIV gives. ChaCha20 has none.
+abbrev pub first_counter : Construction → (nonce tag : List ℕ) → List ℕ
+first_counter ByChaCha nonce tag = []
+first_counter ByGcm nonce tag = up_be (j0 nonce) 1
+first_counter ByGcmSiv nonce tag = counter_block tag
+
+-- the hash of the authenticated bytes of a message, of which the tag is made. That of ChaCha20-Poly1305 is the tag.
+abbrev pub digest_by : Construction → Setting → List ℕ → List ℕ
+digest_by ByChaCha s m = poly1305 (poly_key s.key s.nonce) (chacha_authenticated s.aad m)
+digest_by ByGcm s m = ghash (hash_key s.key) (gcm_authenticated s.aad m)
+digest_by ByGcmSiv s m = polyval (authentication_key s.key s.nonce) (siv_authenticated s.aad m)
+
+abbrev pub digest_over : Setting → List ℕ → List ℕ
+digest_over s m = digest_by (construction_of s.suite) s m
 
 -- ---- m has made n bytes of the mask of a message under this tag
 
@@ -24,14 +50,11 @@ use Rattle.aead.specs.Sealing.{encryption_key, counter_block}
 abbrev pub MadeByChaCha : ChaStream → Setting → List ℕ → ℕ → Type 0
 MadeByChaCha m s tag n = (construction_of s.suite ≡ ByChaCha) × chacha.Holds m s.key s.nonce 1 n
 
--- m has made n bytes of the mask of a message of GCM
-abbrev pub MadeByGcm : {C : Type 0} → Ctr C → Setting → List ℕ → ℕ → Type 0
-MadeByGcm m s tag n = (construction_of s.suite ≡ ByGcm) × Holds up_be m s.key (up_be (j0 s.nonce) 1) n
-
--- m has made n bytes of the mask of a message of GCM-SIV under this tag
-abbrev pub MadeByGcmSiv : {C : Type 0} → Ctr C → Setting → List ℕ → ℕ → Type 0
-MadeByGcmSiv m s tag n =
-    (construction_of s.suite ≡ ByGcmSiv) × Holds up_le m (encryption_key s.key s.nonce) (counter_block tag) n
+-- m has made n bytes of the mask of a message of a construction with AES under this tag. Its counter blocks follow `up`.
+abbrev pub MadeByCounter : {C : Type 0} → Construction → (up : List ℕ → ℕ → List ℕ) → Ctr C → Setting → List ℕ → ℕ
+    → Type 0
+MadeByCounter by up m s tag n =
+    (construction_of s.suite ≡ by) × Holds up m (cipher_key by s) (first_counter by s.nonce tag) n
 
 -- ---- h holds the text m under the keys of a message
 
@@ -39,20 +62,10 @@ MadeByGcmSiv m s tag n =
 abbrev pub HeldByPoly : PolyBy WordMul → Setting → List ℕ → Type 0
 HeldByPoly h s m = (construction_of s.suite ≡ ByChaCha) × poly1305.Holds h (poly_key s.key s.nonce) m
 
--- h is a GHASH that holds m under the hash key of a message, together with the cipher of J0
-abbrev pub HeldByGhash : {M : Type 0} → (M → List ℕ) → GhashTag M → Setting → List ℕ → Type 0
-HeldByGhash key_bytes h s m =
-    (construction_of s.suite ≡ ByGcm) × gf128.Holds key_bytes h.hash (hash_key s.key) m
-    × (h.mask ≡ cipher s.key (j0 s.nonce))
-
--- h is a POLYVAL that holds m under the authentication key of a message, together with the encryption key and the nonce.
--- For POLYVAL only the fact is stated (`∥ .. ∥₁`).
-abbrev pub HeldByPolyval : {M K : Type 0} → (M → List ℕ) → (K → List ℕ) → PolyvalTag M K → Setting → List ℕ
-    → Type 0
-HeldByPolyval key_bytes key h s m =
-    (construction_of s.suite ≡ ByGcmSiv)
-    × ∥ gf128.PolyvalHolds key_bytes h.hash (authentication_key s.key s.nonce) m ∥₁
-    × (key h.key ≡ encryption_key s.key s.nonce) × (h.nonce ≡ s.nonce)
+-- h is GHASH or POLYVAL, which holds m under the hash key of a message of this construction. Only the fact is stated (`∥ .. ∥₁`).
+abbrev pub HeldByBlocks : {M O : Type 0} → Construction → Order → (M → List ℕ) → BlockHash M O → Setting → List ℕ → Type 0
+HeldByBlocks by order key_bytes h s m =
+    (construction_of s.suite ≡ by) × ∥ gf128.HashHolds order key_bytes h (block_key by s) m ∥₁
 
 -- ---- whole parts
 

@@ -8,14 +8,14 @@ ghost use Rattle.aead.specs.AnyCiphers.{keyed_of};
 ghost use Rattle.aead.specs.Code.Findings.{PassedWhole};
 
 use crate::any::{AnyAead, AnyOnePass};
-use crate::beside::Order;
 use crate::engine::measure::Measured;
 use crate::engine::passes::{Finding, pass};
 use crate::masking::Masking;
+use crate::message::Message;
 use crate::one_pass::OnePass;
 use crate::two_pass::TwoPass;
 use gf128::{Keyed128, WideMul};
-use octets::{Fault, Intake, Nonce, Outlet};
+use octets::{Fault, Intake, Nonce, Order, Outlet};
 
 // Opens a whole reading by a cipher with a nonce whose tag is over the ciphertext.
 fn open_one_pass<N: OnePass, I: Intake, O: Outlet>(
@@ -36,7 +36,7 @@ fn open_one_pass<N: OnePass, I: Intake, O: Outlet>(
     let limit = message.suite().text_limit();
     let mut opening = Masking::empty(Order::HashFirst, message.mask(), message.hash(), limit);
     opening.begin(aad);
-    pass(intake, opening, measured, outlet)
+    pass(message, intake, opening, measured, outlet)
 }
 
 // Opens a whole reading by a cipher with a nonce whose tag is over the text.
@@ -59,7 +59,7 @@ fn open_two_pass<N: TwoPass, I: Intake, O: Outlet>(
     let mask = message.mask(&measured.tag);
     let mut opening = Masking::empty(Order::MaskFirst, mask, message.hash(), limit);
     opening.begin(aad);
-    pass(intake, opening, measured, outlet)
+    pass(message, intake, opening, measured, outlet)
 }
 
 // Opens a whole reading by a cipher of any suite.

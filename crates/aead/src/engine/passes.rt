@@ -5,15 +5,15 @@ ghost use Rattle.std.specs.Prelude.{ℕ, ◌+◌, ◌<◌, ◌≤◌, List, [], 
 ghost use Rattle.octets.specs.declared.work.Order.{Order};
 ghost use Rattle.aead.specs.Refusals.{DueToReading, DueToBoth};
 ghost use Rattle.aead.specs.Sealing.{Setting};
+ghost use Rattle.aead.specs.Ciphers.{setting};
 ghost use Rattle.aead.specs.Code.Masks.{hashed_by};
 ghost use Rattle.aead.specs.Code.Maskings.{HoldsMasking, message_task};
 ghost use Rattle.aead.specs.Code.Passes.{Passed};
 
 use crate::engine::measure::Measured;
 use crate::engine::stage::Stage;
-use crate::hashes::TagHash;
-use crate::mask::MaskStream;
 use crate::masking::Masking;
+use crate::message::Message;
 use octets::{Fault, Intake, Outlet, Tag, fill, give_all, same};
 
 // How a reading compares with the measured one.
@@ -127,16 +127,17 @@ pub(crate) fn finding_of<I: Intake>(
     }
 }
 
-// Passes a whole reading: the body of the measured length, the measured tag, and the end.
-pub(crate) fn pass<I: Intake, O: Outlet, S: MaskStream, H: TagHash>(
+// Passes a whole reading of a message: the body of the measured length, the measured tag, and the end.
+pub(crate) fn pass<N: Message, I: Intake, O: Outlet>(
+    message: &N,
     intake: &mut I,
-    mut opening: Masking<S, H>,
+    mut opening: Masking<N::Stream, N::Hash>,
     measured: &Measured,
     outlet: &mut O,
 ) -> Result<Finding, Fault>
     requires { opening.authenticator.length + measured.now.length ≤ opening.limit + 16 }
-    ensures passed { (o : Order) (s : Setting)
-        → HoldsMasking S.made H.held (message_task o s measured.now.tag) opening []
+    ensures passed { (o : Order) (aad : List ℕ) → let s = setting (N.keyed message.now) (N.nonce message.now) aad in
+        HoldsMasking N.Stream.made N.Hash.held (message_task o s measured.now.tag) opening []
         → MakesTextTag (hashed_by o) s measured.now.tag →
         PassedWhole s measured.now.tag measured.now.length (I.left intake.old) (I.left intake.new)
         (O.taken outlet.old) (O.taken outlet.new) result }
@@ -144,7 +145,7 @@ pub(crate) fn pass<I: Intake, O: Outlet, S: MaskStream, H: TagHash>(
         (O.failures outlet.new) result }
 {
     match pass_body(intake, &mut opening, measured.length - 16, outlet) {
-        Ok(n) => finding_of(intake, measured, n, opening.finish()),
+        Ok(n) => finding_of(intake, measured, n, message.tag(&opening.finish())),
         Err(fault) => Err(fault),
     }
 }

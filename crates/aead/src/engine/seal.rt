@@ -9,11 +9,11 @@ ghost use Rattle.aead.specs.SealStream.{SealsStream, IfTextKnown};
 
 use crate::aead::Aead;
 use crate::any::AnyOnePass;
-use crate::beside::Order;
 use crate::engine::passes::pass_all;
 use crate::masking::Masking;
+use crate::message::Message;
 use crate::one_pass::OnePass;
-use octets::{Fault, Intake, Nonce, Outlet, give_all};
+use octets::{Fault, Intake, Nonce, Order, Outlet, give_all};
 
 // Seals a stream in one reading, by a cipher with a nonce.
 fn seal_over<N: OnePass, I: Intake, O: Outlet>(
@@ -33,7 +33,7 @@ fn seal_over<N: OnePass, I: Intake, O: Outlet>(
     let mut sealing = Masking::empty(Order::MaskFirst, message.mask(), message.hash(), limit);
     sealing.begin(aad);
     match pass_all(text, &mut sealing, limit, out) {
-        Ok(Some(_)) => match give_all(out, sealing.finish().bytes()) {
+        Ok(Some(_)) => match give_all(out, message.tag(&sealing.finish()).bytes()) {
             Ok(()) => Ok(()),
             Err(_) => Err(Fault::Write),
         },

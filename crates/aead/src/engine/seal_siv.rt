@@ -4,7 +4,7 @@
 ghost use Rattle.std.specs.Prelude.{◌≡◌, ◌↔◌, ◌<◌, ◌≤◌, ◌∷◌, ℕ, List, [], length, IfSome, IsTrue};
 ghost use Rattle.aead.specs.Refusals.{DueToBoth, late_in_readings, UntouchedUnless};
 ghost use Rattle.aead.specs.Suites.{ByGcmSiv, construction_of, aad_limit};
-ghost use Rattle.aead.specs.Sealing.{Setting, tag_of};
+ghost use Rattle.aead.specs.Sealing.{tag_of};
 ghost use Rattle.aead.specs.Ciphers.{setting};
 ghost use Rattle.aead.specs.Code.Maskings.{HoldsMasking, repeating_task};
 ghost use Rattle.aead.specs.Pieces.{Repeats};
@@ -12,38 +12,36 @@ ghost use Rattle.aead.specs.SealSivStream.{WritesAgain, SealsSivStream, SivBlame
 
 use crate::aead::Aead;
 use crate::authenticator::Authenticator;
-use crate::beside::Order;
 use crate::engine::discard::Discard;
 use crate::engine::passes::pass_all;
 use crate::gcm_siv::GcmSiv;
-use crate::hashes::TagHash;
-use crate::mask::MaskStream;
 use crate::masking::Masking;
+use crate::message::Message;
 use crate::two_pass::TwoPass;
 use gf128::{Keyed128, WideMul};
-use octets::{Fault, Intake, Nonce, Outlet, Tag, give_all, same};
+use octets::{Fault, Intake, Nonce, Order, Outlet, Tag, give_all, same};
 
 // Returns whether a second reading has the length and the tag of the first one.
-fn repeats<S: MaskStream, H: TagHash>(again: Masking<S, H>, tag: &Tag) -> bool
-    ensures { (s : Setting) (first text : List ℕ) → construction_of s.suite ≡ ByGcmSiv
-        → tag.now ≡ tag_of s first
-        → HoldsMasking S.made H.held (repeating_task s first) again text
+fn repeats<N: TwoPass>(message: &N, again: Masking<N::Stream, N::Hash>, tag: &Tag) -> bool
+    ensures { (aad first text : List ℕ) → let s = setting (N.keyed message.now) (N.nonce message.now) aad in
+        tag.now ≡ tag_of s first → HoldsMasking N.Stream.made N.Hash.held (repeating_task s first) again text
         → IsTrue result ↔ Repeats s first text }
 {
     let missing = again.limit - again.authenticator.length;
-    missing == 0 && same(again.finish().bytes(), tag.bytes())
+    missing == 0 && same(message.tag(&again.finish()).bytes(), tag.bytes())
 }
 
 // Encrypts a second reading and gives it, and then gives the tag if the reading repeats the first one.
-fn write_again<J: Intake, O: Outlet, S: MaskStream, H: TagHash>(
+fn write_again<N: TwoPass, J: Intake, O: Outlet>(
+    message: &N,
     intake: &mut J,
-    mut again: Masking<S, H>,
+    mut again: Masking<N::Stream, N::Hash>,
     tag: &Tag,
     outlet: &mut O,
 ) -> Result<(), Fault>
     requires { again.authenticator.length ≡ 0 }
-    ensures written { (s : Setting) (first : List ℕ) → construction_of s.suite ≡ ByGcmSiv
-        → tag.now ≡ tag_of s first → HoldsMasking S.made H.held (repeating_task s first) again [] →
+    ensures written { (aad first : List ℕ) → let s = setting (N.keyed message.now) (N.nonce message.now) aad in
+        tag.now ≡ tag_of s first → HoldsMasking N.Stream.made N.Hash.held (repeating_task s first) again [] →
         IfSome (J.left intake.old) (λ b. WritesAgain s first b (O.taken outlet.old) (O.taken outlet.new)
         (J.failures intake.old) (J.failures intake.new) (O.failures outlet.old) (O.failures outlet.new)
         result) }
@@ -53,7 +51,7 @@ fn write_again<J: Intake, O: Outlet, S: MaskStream, H: TagHash>(
     let length = again.limit;
     match pass_all(intake, &mut again, length, outlet) {
         Ok(Some(_)) => {
-            if repeats(again, tag) {
+            if repeats(message, again, tag) {
                 match give_all(outlet, tag.bytes()) {
                     Ok(()) => Ok(()),
                     Err(_) => Err(Fault::Write),
@@ -97,7 +95,7 @@ fn seal_over<N: TwoPass, I: Intake, J: Intake, O: Outlet>(
         &mut Discard,
     ) {
         Ok(Some(length)) => {
-            let tag = reading.finish();
+            let tag = message.tag(&reading.finish());
             let mut again = Masking::empty(
                 Order::HashFirst,
                 message.mask(&tag),
@@ -105,7 +103,7 @@ fn seal_over<N: TwoPass, I: Intake, J: Intake, O: Outlet>(
                 length,
             );
             again.begin(aad);
-            write_again(second, again, &tag, out)
+            write_again(message, second, again, &tag, out)
         }
         Ok(None) => Err(Fault::TextTooLong),
         Err(_) => Err(Fault::Read),

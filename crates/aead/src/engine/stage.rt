@@ -8,10 +8,10 @@ ghost use Rattle.aead.specs.Code.States.{HoldsAuthenticator};
 ghost use Rattle.aead.specs.Code.Maskings.{Task, HoldsMasking, task_mask};
 
 use crate::authenticator::Authenticator;
-use crate::beside::step;
 use crate::hashes::TagHash;
 use crate::mask::MaskStream;
 use crate::masking::Masking;
+use crate::step::step;
 
 // The stage of a pass, between the reading and the outlet: it takes in each piece, and may mask it before it is given.
 pub(crate) trait Stage {

@@ -11,6 +11,7 @@ use crate::authenticator::Authenticator;
 use crate::engine::discard::Discard;
 use crate::engine::measure::Measured;
 use crate::engine::passes::{Finding, finding_of, pass_body};
+use crate::message::Message;
 use crate::one_pass::OnePass;
 use octets::{Fault, Intake};
 
@@ -31,7 +32,7 @@ pub(crate) fn verify_one_pass<N: OnePass, I: Intake>(
     let mut reading = Authenticator::empty(message.hash());
     reading.begin(aad);
     match pass_body(intake, &mut reading, measured.length - 16, &mut Discard) {
-        Ok(n) => finding_of(intake, measured, n, reading.finish()),
+        Ok(n) => finding_of(intake, measured, n, message.tag(&reading.finish())),
         Err(_) => Err(Fault::Read),
     }
 }

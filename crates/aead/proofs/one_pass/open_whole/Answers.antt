@@ -6,13 +6,13 @@ use Rattle.aead.proofs.one_pass.open_whole.Goals as goal
 
 pub returns-then-not-same : goal.returns-then-not-same
 returns-then-not-same g c =
-    let s : Setting = setting (g.N.OnePass.keyed c.args.message.now) (g.N.OnePass.nonce c.args.message.now)
+    let s : Setting = setting (g.N.Message.keyed c.args.message.now) (g.N.Message.nonce c.args.message.now)
     c.args.aad.now in
     let hash = rw (sym c.empty-authenticator.ensures.0) at (c.hash.ensures c.args.aad.now) in
     let begun = c.begin.ensures.holds s refl c.requires.aad_fits hash in
     let taken = c.update.ensures.holds s [] begun (omega (arith, c.requires.text_fits)) in
     let tag_is : c.bytes.result.now ≡ tag_of s (unmasked s c.args.tag.now c.args.body.now) =
-    c.bytes.ensures.value ∙ c.tag.ensures.tag s c.args.body.now taken
+    c.bytes.ensures.value ∙ c.tag.ensures c.args.aad.now c.args.body.now (c.digest.ensures.digest s c.args.body.now taken)
     ∙ sym (body_tag s c.args.tag.now c.args.body.now (g.met.N.OnePass.one_pass c.args.message.now)) in (
       (
         c.requires.aad_fits,
@@ -28,7 +28,7 @@ returns-then-not-same g c =
 
 pub returns : goal.returns
 returns g c =
-    let s : Setting = setting (g.N.OnePass.keyed c.args.message.now) (g.N.OnePass.nonce c.args.message.now)
+    let s : Setting = setting (g.N.Message.keyed c.args.message.now) (g.N.Message.nonce c.args.message.now)
     c.args.aad.now in
     let fits : Fits s c.args.body.now =
     record { aad_fits = c.requires.aad_fits; text_fits = c.requires.text_fits } in
@@ -39,5 +39,5 @@ returns g c =
     opened_as s c.args.body.now c.args.tag.now c.apply_to.new.piece fits (λ i. (c.type_inv.body i).fits)
     (c.apply_to.ensures s c.args.tag.now 0 made (omega (arith, fits.text_fits))).1
     (body_tag s c.args.tag.now c.args.body.now (g.met.N.OnePass.one_pass c.args.message.now)
-    ∙ sym (c.tag.ensures.tag s c.args.body.now taken) ∙ sym c.bytes.ensures.value
+    ∙ sym (c.tag.ensures c.args.aad.now c.args.body.now (c.digest.ensures.digest s c.args.body.now taken)) ∙ sym c.bytes.ensures.value
     ∙ c.same.ensures.0 c.if-not-same.false ∙ c.bytes-given.ensures.value)

@@ -9,7 +9,7 @@ use Rattle.aead.proofs.one_pass.seal_whole.Goals as goal
 
 pub returns : goal.returns
 returns g c =
-    let s : Setting = setting (g.N.OnePass.keyed c.args.message.now) (g.N.OnePass.nonce c.args.message.now)
+    let s : Setting = setting (g.N.Message.keyed c.args.message.now) (g.N.Message.nonce c.args.message.now)
     c.args.aad.now in
     let fits : Fits s c.args.text.now =
     record { aad_fits = c.requires.aad_fits; text_fits = c.requires.text_fits } in
@@ -20,4 +20,4 @@ returns g c =
     let fed = c.step.ensures.step s [] [] (c.mask-mask.ensures c.args.aad.now []) none (omega (arith, fits.text_fits)) in
     seals_one_pass s [] c.args.text.now c.step.new.piece c.tag.result
     (g.met.N.OnePass.one_pass c.args.message.now) fits c.tells_bytes.ensures fed.2
-    (c.tag.ensures.tag s _ fed.1)
+    (c.tag.ensures c.args.aad.now _ (c.digest.ensures.digest s _ fed.1))

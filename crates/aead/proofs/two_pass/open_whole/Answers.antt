@@ -12,7 +12,7 @@ use Rattle.aead.proofs.two_pass.open_whole.Goals as goal
 
 pub returns-then-same : goal.returns-then-same
 returns-then-same g c =
-    let s : Setting = setting (g.N.TwoPass.keyed c.args.message.now) (g.N.TwoPass.nonce c.args.message.now)
+    let s : Setting = setting (g.N.Message.keyed c.args.message.now) (g.N.Message.nonce c.args.message.now)
     c.args.aad.now in
     let fits : Fits s c.args.body.now =
     record { aad_fits = c.requires.aad_fits; text_fits = c.requires.text_fits } in
@@ -25,13 +25,13 @@ returns-then-same g c =
     (omega (arith, fits.text_fits)) in
     let tag_is : tag_of s (unmasked s c.args.tag.now c.args.body.now) ≡ c.tag.result =
     two_pass_tag s (unmasked s c.args.tag.now c.args.body.now) two
-    ∙ sym (c.tag.ensures.tag s _ fed.1) in
+    ∙ sym (c.tag.ensures c.args.aad.now _ (c.digest.ensures.digest s _ fed.1)) in
     opened_as s c.args.body.now c.args.tag.now c.step.new.piece fits (λ i. (c.type_inv.body i).fits) fed.2
     (tag_is ∙ sym c.bytes.ensures.value ∙ c.same.ensures.0 c.if-same.true ∙ c.bytes-given.ensures.value)
 
 pub returns : goal.returns
 returns g c =
-    let s : Setting = setting (g.N.TwoPass.keyed c.args.message.now) (g.N.TwoPass.nonce c.args.message.now)
+    let s : Setting = setting (g.N.Message.keyed c.args.message.now) (g.N.Message.nonce c.args.message.now)
     c.args.aad.now in
     let two = ap is_one_pass (g.met.N.TwoPass.by_gcm_siv c.args.message.now) in
     let f : ℕ → ℕ = mask_of s c.args.tag.now in
@@ -43,7 +43,7 @@ returns g c =
     (omega (arith, c.requires.text_fits)) in
     let tag_is : tag_of s (unmasked s c.args.tag.now c.args.body.now) ≡ c.tag.result =
     two_pass_tag s (unmasked s c.args.tag.now c.args.body.now) two
-    ∙ sym (c.tag.ensures.tag s _ fed.1) in
+    ∙ sym (c.tag.ensures c.args.aad.now _ (c.digest.ensures.digest s _ fed.1)) in
     let long : length c.step.new.piece ≤ text_limit s.suite =
     omega (arith, ap length fed.2, length-masked f 0 c.args.body.now, c.requires.text_fits) in (
       (

@@ -7,7 +7,7 @@ use Rattle.aead.proofs.two_pass.seal_whole.Goals as goal
 
 pub returns : goal.returns
 returns g c =
-    let s : Setting = setting (g.N.TwoPass.keyed c.args.message.now) (g.N.TwoPass.nonce c.args.message.now)
+    let s : Setting = setting (g.N.Message.keyed c.args.message.now) (g.N.Message.nonce c.args.message.now)
     c.args.aad.now in
     let fits : Fits s c.args.text.now =
     record { aad_fits = c.requires.aad_fits; text_fits = c.requires.text_fits } in
@@ -16,6 +16,6 @@ returns g c =
     let taken = c.update.ensures.holds s [] begun (omega (arith, fits.text_fits)) in
     seals_two_pass s c.args.text.now c.apply_to.new.piece c.tag-tag.result
     (ap is_one_pass (g.met.N.TwoPass.by_gcm_siv c.args.message.now)) fits c.update.ensures.bytes
-    (c.tag-tag.ensures.tag s c.args.text.now taken)
+    (c.tag-tag.ensures c.args.aad.now c.args.text.now (c.digest.ensures.digest s c.args.text.now taken))
     (c.apply_to.ensures s c.tag-tag.result 0 (c.mask.ensures c.args.aad.now)
     (omega (arith, fits.text_fits))).1

@@ -2,7 +2,7 @@ use Rattle.std.proofs.Common.{refl, ap, sym, subst, ◌∙◌}
 use Rattle.aead.specs.Suites.{construction_of}
 use Rattle.aead.specs.Ciphers.{setting}
 use Rattle.aead.specs.AnyCiphers.{one_pass_keyed}
-use Rattle.aead.specs.Sealing.{hash_key, poly_key}
+use Rattle.aead.specs.Sealing.{poly_key}
 use Rattle.aead.specs.PassStates.{IsHashKey}
 use Rattle.aead.proofs.any.AnyOnePass.initial_state.Goals as goal
 
@@ -21,5 +21,4 @@ returns-in-Gcm c =
     let s = setting (one_pass_keyed c.args.self.now) c.args.nonce.now c.args.aad.now in
     let by = ap (λ k. construction_of (one_pass_keyed k).suite) c.in-Gcm.is ∙ c.keys.ensures.by in
     let is = ap (λ k. (one_pass_keyed k).key) c.in-Gcm.is in
-    c.initial_state.ensures s by
-    (c.keys.ensures.key ∙ sym is, c.keys.ensures.multiplier ∙ ap hash_key (sym is)) refl refl c.requires
+    c.initial_state.ensures s by (c.hash_keys.ensures s (is ∙ sym c.keys.ensures.key) refl) refl c.requires

@@ -9,13 +9,13 @@ use Rattle.aead.proofs.engine.opening.open_one_pass.Goals as goal
 
 pub returns-clause-passed : goal.returns-clause-passed
 returns-clause-passed g c =
-    let s : Setting = setting (g.N.OnePass.keyed c.args.message.now) (g.N.OnePass.nonce c.args.message.now)
+    let s : Setting = setting (g.N.Message.keyed c.args.message.now) (g.N.Message.nonce c.args.message.now)
     c.args.aad.now in
     let tag = c.args.measured.now.tag in
     let empty = c.empty-opening.ensures in
     let mask = rw (sym empty.mask) at (c.mask.ensures c.args.aad.now tag) in
     let hash = rw (sym empty.hash) at (c.hash.ensures c.args.aad.now) in
     let limit = empty.limit ∙ c.text_limit-limit.ensures ∙ ap text_limit c.suite.ensures in
-    c.pass.ensures.passed HashFirst s
+    c.pass.ensures.passed HashFirst c.args.aad.now
     (c.begin.ensures.holds (message_task HashFirst s tag) empty.order mask hash refl c.requires.aad_fits limit (omega arith))
     (λ body. sym (body_tag s tag body (g.met.N.OnePass.one_pass c.args.message.now)))

@@ -17,7 +17,7 @@ pass_all-requires g c =
 
 pub returns-in-Err-clause-seals : goal.returns-in-Err-clause-seals
 returns-in-Err-clause-seals g c =
-    let s : Setting = setting (g.N.OnePass.keyed c.args.message.now) (g.N.OnePass.nonce c.args.message.now)
+    let s : Setting = setting (g.N.Message.keyed c.args.message.now) (g.N.Message.nonce c.args.message.now)
     c.args.aad.now in
     let one = g.met.N.OnePass.one_pass c.args.message.now in
     let empty = c.empty-sealing.ensures in
@@ -32,7 +32,7 @@ returns-in-Err-clause-seals g c =
 
 pub returns-in-Ok-None-clause-seals : goal.returns-in-Ok-None-clause-seals
 returns-in-Ok-None-clause-seals g c =
-    let s : Setting = setting (g.N.OnePass.keyed c.args.message.now) (g.N.OnePass.nonce c.args.message.now)
+    let s : Setting = setting (g.N.Message.keyed c.args.message.now) (g.N.Message.nonce c.args.message.now)
     c.args.aad.now in
     let one = g.met.N.OnePass.one_pass c.args.message.now in
     let empty = c.empty-sealing.ensures in
@@ -49,7 +49,7 @@ returns-in-Ok-None-clause-seals g c =
 
 pub returns-in-Ok-clause-seals : goal.returns-in-Ok-clause-seals
 returns-in-Ok-clause-seals g c =
-    let s : Setting = setting (g.N.OnePass.keyed c.args.message.now) (g.N.OnePass.nonce c.args.message.now)
+    let s : Setting = setting (g.N.Message.keyed c.args.message.now) (g.N.Message.nonce c.args.message.now)
     c.args.aad.now in
     let one = g.met.N.OnePass.one_pass c.args.message.now in
     let empty = c.empty-sealing.ensures in
@@ -59,13 +59,13 @@ returns-in-Ok-clause-seals g c =
     let hash = rw (sym empty.hash) at (c.hash.ensures c.args.aad.now) in
     let h = c.begin.ensures.holds (message_task MaskFirst s []) empty.order mask hash refl c.requires
     (empty.limit ∙ limit) (omega arith) in
-    let tag : List ℕ = c.finish.result in
+    let tag : List ℕ = c.tag.result in
     let size : length tag ≡ 16 = c.bytes.ensures.are_bytes.length_is in
     let R : List ℕ → Type 0 =
     λ b. Appends (g.O.Outlet.taken c.pass_all.new.outlet) (g.O.Outlet.taken c.give_all.new.outlet) b in
     exit_tag _ _ _ _ _ _ s _ tag _ _ 16 _ _ _ _ _ limit one c.requires
     (rw c.in-Ok-Some.field-0-is at (c.in-Ok-Some.ensures.passed (message_task MaskFirst s []) h (omega (arith, limit))))
-    (λ text held. c.finish.ensures _ text held ∙ sym (one_pass_tag s [] text one))
+    (λ text held. c.tag.ensures c.args.aad.now _ (c.finish.ensures _ text held) ∙ sym (one_pass_tag s [] text one))
     (subst R (c.bytes.ensures.value ∙ sym (take_all 16 tag (omega (arith, size))))
     c.in-Ok.ensures.bytes)
     (inl (
@@ -78,7 +78,7 @@ returns-in-Ok-clause-seals g c =
 
 pub returns-in-Err-give_all-clause-seals : goal.returns-in-Err-give_all-clause-seals
 returns-in-Err-give_all-clause-seals g c =
-    let s : Setting = setting (g.N.OnePass.keyed c.args.message.now) (g.N.OnePass.nonce c.args.message.now)
+    let s : Setting = setting (g.N.Message.keyed c.args.message.now) (g.N.Message.nonce c.args.message.now)
     c.args.aad.now in
     let one = g.met.N.OnePass.one_pass c.args.message.now in
     let empty = c.empty-sealing.ensures in
@@ -93,10 +93,10 @@ returns-in-Err-give_all-clause-seals g c =
     λ b. Appends (g.O.Outlet.taken c.pass_all.new.outlet) (g.O.Outlet.taken c.give_all.new.outlet)
     (take given.0 b) in
     let F : ℕ → Type 0 = λ n. Failed n (g.O.Outlet.failures c.give_all.new.outlet) in
-    exit_tag _ _ _ _ _ _ s _ c.finish.result _ _ given.0 _ _ _ _ _ limit one
+    exit_tag _ _ _ _ _ _ s _ c.tag.result _ _ given.0 _ _ _ _ _ limit one
     c.requires
     (rw c.in-Ok-Some.field-0-is at (c.in-Ok-Some.ensures.passed (message_task MaskFirst s []) h (omega (arith, limit))))
-    (λ text held. c.finish.ensures _ text held ∙ sym (one_pass_tag s [] text one))
+    (λ text held. c.tag.ensures c.args.aad.now _ (c.finish.ensures _ text held) ∙ sym (one_pass_tag s [] text one))
     (subst R c.bytes.ensures.value given.2)
     (inr (refl, subst F c.in-Ok-Some.ensures.blame.1 c.in-Err-give_all.ensures.count))
 

@@ -9,7 +9,7 @@ use Rattle.aead.proofs.engine.seal_siv.seal_over.Goals as goal
 
 pub returns-in-Err-clause-seals : goal.returns-in-Err-clause-seals
 returns-in-Err-clause-seals g c =
-    let s : Setting = setting (g.N.TwoPass.keyed c.args.message.now) (g.N.TwoPass.nonce c.args.message.now)
+    let s : Setting = setting (g.N.Message.keyed c.args.message.now) (g.N.Message.nonce c.args.message.now)
     c.args.aad.now in
     exit_first (g.I.Intake.left c.args.first.now) (g.J.Intake.left c.args.second.now)
     (g.O.Outlet.taken c.args.out.now) s
@@ -19,7 +19,7 @@ returns-in-Err-clause-seals g c =
 
 pub returns-in-Ok-None-clause-seals : goal.returns-in-Ok-None-clause-seals
 returns-in-Ok-None-clause-seals g c =
-    let s : Setting = setting (g.N.TwoPass.keyed c.args.message.now) (g.N.TwoPass.nonce c.args.message.now)
+    let s : Setting = setting (g.N.Message.keyed c.args.message.now) (g.N.Message.nonce c.args.message.now)
     c.args.aad.now in
     let hash = rw (sym c.empty-reading.ensures.0) at (c.hash.ensures c.args.aad.now) in
     let h = c.begin.ensures.holds s refl c.requires hash in
@@ -30,7 +30,7 @@ returns-in-Ok-None-clause-seals g c =
 
 pub returns-in-Ok-Some-clause-seals : goal.returns-in-Ok-Some-clause-seals
 returns-in-Ok-Some-clause-seals g c =
-    let s : Setting = setting (g.N.TwoPass.keyed c.args.message.now) (g.N.TwoPass.nonce c.args.message.now)
+    let s : Setting = setting (g.N.Message.keyed c.args.message.now) (g.N.Message.nonce c.args.message.now)
     c.args.aad.now in
     let hash = rw (sym c.empty-reading.ensures.0) at (c.hash.ensures c.args.aad.now) in
     let h = c.begin.ensures.holds s refl c.requires hash in
@@ -40,13 +40,13 @@ returns-in-Ok-Some-clause-seals g c =
     let by = g.met.N.TwoPass.by_gcm_siv c.args.message.now in
     exit_second _ _ _ _ _ _ _ _ _ s _ _ _ _ _ _ _ _ _ _ c.in-Ok-Some.ensures.blame.0 went
     (λ a held size.
-    let tag_is : c.finish-tag.result ≡ tag_of s a =
-    c.finish-tag.ensures s a held ∙ sym (two_pass_tag s a (ap is_one_pass by)) in
+    let tag_is : c.tag-tag.result ≡ tag_of s a =
+    c.tag-tag.ensures c.args.aad.now a (c.finish.ensures s a held) ∙ sym (two_pass_tag s a (ap is_one_pass by)) in
     let empty = c.empty-again.ensures in
-    let made : g.N.Stream.MaskStream.made c.empty-again.result.mask s c.finish-tag.result 0 =
+    let made : g.N.Stream.MaskStream.made c.empty-again.result.mask s c.tag-tag.result 0 =
     rw (sym empty.mask) at (c.mask.ensures c.args.aad.now) in
     let again = rw (sym empty.hash) at (c.hash-in-Ok-Some.ensures c.args.aad.now) in
     let P : List ℕ → Type 0 = λ t. g.N.Stream.MaskStream.made c.empty-again.result.mask s t 0 in
-    c.write_again.ensures.written s a by tag_is
+    c.write_again.ensures.written c.args.aad.now a tag_is
     (c.begin-in-Ok-Some.ensures.holds (repeating_task s a) empty.order (subst P tag_is made) again refl c.requires
     (empty.limit ∙ sym size) held.fits.text_fits))

@@ -31,7 +31,7 @@ returns-in-Gcm c = λ s fed k long fits h knows.
     let own = subst (λ (x : CipherKeys). AreCipherKeys x s) c.in-Gcm.is k.cipher in
     let by = k.by ∙ ap construction_by c.in-Gcm.is in
     let under = λ (b : KnownBlock) (x : Construction). KnowsCipher b (cipher_key x s) in
-    let m = c.mask.ensures s c.args.tag.now fed by own (c.new-nonce.ensures.value ∙ k.nonce_is) long fits h
+    let m = c.mask.ensures s fed by own (c.new-nonce.ensures.value ∙ k.nonce_is) long fits h
     (subst (under c.args.known.now) by knows) in
     (m.0, m.1, subst (under c.mask.new.known) (sym by) m.2)
 

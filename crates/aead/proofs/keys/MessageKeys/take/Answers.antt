@@ -15,4 +15,4 @@ returns-in-Gcm c = λ s bytes k.
 pub returns-in-Siv : goal.returns-in-Siv
 returns-in-Siv c = λ s bytes k.
     let own = subst (λ (x : CipherKeys). AreCipherKeys x s) c.in-Siv.is k.cipher in
-    c.take-in-Siv.ensures s bytes (k.by ∙ ap construction_by c.in-Siv.is) own (c.new-nonce.ensures.value ∙ k.nonce_is)
+    c.take-in-Siv.ensures s bytes (k.by ∙ ap construction_by c.in-Siv.is) own

@@ -1,8 +1,0 @@
-use mathlib.Core.Logic.{∥∥₁_elim}
-use Rattle.std.proofs.Props.{props}
-use Rattle.aead.specs.Sealing.{authentication_key}
-use Rattle.aead.proofs.hashes.PolyvalTagTagHash.rest.Goals as goal
-
-pub returns-clause-value : goal.returns-clause-value
-returns-clause-value g c = λ s m held.
-    ∥∥₁_elim held.1 (hlevel props) (λ h. c.rest.ensures.value (authentication_key s.key s.nonce) m h)

@@ -1,5 +1,0 @@
-use mathlib.Core.Logic.{∥∥₁_map}
-use Rattle.aead.proofs.hashes.PolyvalTagTagHash.take_in.Goals as goal
-
-pub returns : goal.returns
-returns g c = λ s m h. (h.0, ∥∥₁_map h.1 (λ held. c.update.ensures _ m held), h.2, h.3)
