@@ -1,10 +1,9 @@
 //! The cipher AES-GCM (SP 800-38D, 7), with nonces of 12 bytes.
 
 ghost use Rattle.std.specs.Prelude.{◌≡◌, ◌≢◌, ◌<◌, ◌≤◌, ◌^◌, ◌++◌, ◌∷◌, ℕ, List, [], length, MatchResult};
-ghost use Rattle.std.proofs.Common.{ap};
 ghost use Rattle.aes.specs.Cipher.{cipher, IsKey};
 ghost use Rattle.aead.specs.declared.suite.Suite.{Suite};
-ghost use Rattle.aead.specs.Suites.{construction_of, is_one_pass, key_length, text_limit, aad_limit, ByGcm};
+ghost use Rattle.aead.specs.Suites.{construction_of, key_length, text_limit, aad_limit, ByGcm};
 ghost use Rattle.aead.specs.Sealing.{Setting, Opened, hash_key, j0, tag_over};
 ghost use Rattle.aead.specs.PassStates.{IsHashKey};
 ghost use Rattle.aead.specs.Code.States.{digest_over};
@@ -14,12 +13,13 @@ ghost use Rattle.aead.specs.InPlace.{OpensInPlace};
 use crate::aead::Aead;
 use crate::derived_keys::joined;
 use crate::message::Message;
-use crate::one_pass::{OnePass, open_whole, seal_whole};
+use crate::nonced::Nonced;
+use crate::one_pass::{open_whole, seal_whole};
 use crate::suite::Suite;
-use aes::{AesKey, CtrBe};
-use gf128::{Ghash, Keyed128, Multiply, TableMul, WideMul};
+use aes::AesKey;
+use gf128::{GhashOrder, Keyed128, Multiply, TableMul, WideMul};
 use octets::{Block, Fault, Nonce, Tag, xored};
-use std::marker::Model;
+use std::marker::{Model, PhantomData};
 
 /// AES-GCM under a key of 16, 24 or 32 bytes (SP 800-38D). Opening in place authenticates before it
 /// changes a byte. Contracts see its suite and key.
@@ -62,17 +62,19 @@ impl Gcm {
         &'k self,
         nonce: &'n Nonce,
         multiplier: M,
-    ) -> NoncedGcm<'k, 'n, M>
+    ) -> Nonced<'k, 'n, GhashOrder, M>
         requires { M.key_bytes multiplier ≡ hash_key self.now.key }
         ensures key { IsKey self.now.key }
-        ensures keyed { ⟦<NoncedGcm<'k, 'n, M> as Message>⟧.keyed result ≡ self.now }
-        ensures nonce { ⟦<NoncedGcm<'k, 'n, M> as Message>⟧.nonce result ≡ nonce.now }
+        ensures keyed { ⟦<Nonced<'k, 'n, GhashOrder, M> as Message>⟧.keyed result ≡ self.now }
+        ensures nonce { ⟦<Nonced<'k, 'n, GhashOrder, M> as Message>⟧.nonce result ≡ nonce.now }
     {
-        NoncedGcm {
+        Nonced {
             suite: self.suite,
             key: &self.key,
             nonce,
+            encryption: &self.key,
             multiplier,
+            rule: PhantomData,
         }
     }
 
@@ -136,51 +138,6 @@ pub(crate) fn counter_block(nonce: &Nonce, counter: u8) -> Block
     Block::new(bytes)
 }
 
-// The inputs of one message: the suite, the key, the nonce, and a multiplier by the hash key.
-#[derive(Drop)]
-pub(crate) struct NoncedGcm<'k, 'n, M: Multiply> {
-    suite: Suite,
-    key: &'k AesKey,
-    nonce: &'n Nonce,
-    multiplier: M,
-    ghost by_gcm: { construction_of suite ≡ ByGcm },
-    ghost multiplier_is: { M.key_bytes multiplier ≡ hash_key key.now },
-}
-
-impl<'k, 'n, M: Multiply + Copy> Message for NoncedGcm<'k, 'n, M> {
-    type Stream = CtrBe<'k>;
-
-    type Hash = Ghash<M>;
-
-    ghost keyed = { λ m. record { suite = m.suite; key = m.key.now } };
-
-    ghost nonce = { λ m. m.nonce.now };
-
-    fn suite(&self) -> Suite {
-        self.suite
-    }
-
-    #[inline(always)]
-    fn hash(&self) -> Ghash<M> {
-        Ghash::with(self.multiplier)
-    }
-
-    #[inline(always)]
-    fn tag(&self, digest: &Block) -> Tag {
-        let mask = self.key.encrypt_in_registers(&counter_block(self.nonce, 1));
-        masked_tag(&mask, digest)
-    }
-}
-
-impl<'k, 'n, M: Multiply + Copy> OnePass for NoncedGcm<'k, 'n, M> {
-    #[inline(always)]
-    fn mask(&self) -> CtrBe<'k> {
-        CtrBe::new(self.key, &counter_block(self.nonce, 2))
-    }
-
-    ghost one_pass = { λ n. ap is_one_pass n.by_gcm };
-}
-
 /// AES-GCM (SP 800-38D) by a key's schedule and a multiplier by its hash subkey, which the caller keeps, as a [`Gcm`] keeps its own.
 /// Opening in place authenticates before it changes a byte.
 #[derive(Drop)]
@@ -210,16 +167,18 @@ impl<'k, M: Multiply + Copy> BorrowedGcm<'k, M> {
 
     // Returns the inputs of one message.
     #[inline(always)]
-    fn nonced<'n>(&self, nonce: &'n Nonce) -> NoncedGcm<'k, 'n, M>
-        ensures keyed { ⟦<NoncedGcm<'k, 'n, M> as Message>⟧.keyed result
+    fn nonced<'n>(&self, nonce: &'n Nonce) -> Nonced<'k, 'n, GhashOrder, M>
+        ensures keyed { ⟦<Nonced<'k, 'n, GhashOrder, M> as Message>⟧.keyed result
             ≡ ⟦<BorrowedGcm<'k, M> as Aead>⟧.keyed self.now }
-        ensures nonce { ⟦<NoncedGcm<'k, 'n, M> as Message>⟧.nonce result ≡ nonce.now }
+        ensures nonce { ⟦<Nonced<'k, 'n, GhashOrder, M> as Message>⟧.nonce result ≡ nonce.now }
     {
-        NoncedGcm {
+        Nonced {
             suite: self.suite,
             key: self.key,
             nonce,
+            encryption: self.key,
             multiplier: self.multiplier,
+            rule: PhantomData,
         }
     }
 }

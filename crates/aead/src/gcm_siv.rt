@@ -19,12 +19,13 @@ ghost use Rattle.aead.specs.Code.States.{MadeByCounter, digest_over};
 use crate::aead::Aead;
 use crate::derived_keys::{DerivedKeys, joined};
 use crate::message::Message;
+use crate::nonced::Nonced;
 use crate::suite::Suite;
-use crate::two_pass::{TwoPass, open_whole, seal_whole};
+use crate::two_pass::{open_whole, seal_whole};
 use aes::{AesKey, CtrLe};
-use gf128::{Keyed128, Multiply, Polyval, TableMul};
+use gf128::{Keyed128, Multiply, PolyvalOrder, TableMul};
 use octets::{Block, Fault, Nonce, Tag, xor_into};
-use std::marker::Model;
+use std::marker::{Model, PhantomData};
 
 /// AES-GCM-SIV under a key of 16 or 32 bytes (RFC 8452). Opening in place decrypts before it can
 /// authenticate, and encrypts again after `TagMismatch`. Contracts see its suite and key.
@@ -78,20 +79,21 @@ impl GcmSiv {
         nonce: &'n Nonce,
         encryption: &'k AesKey,
         multiplier: M,
-    ) -> NoncedGcmSiv<'k, 'n, M>
+    ) -> Nonced<'k, 'n, PolyvalOrder, M>
         requires encryption { encryption.now ≡ encryption_key self.now.key nonce.now }
         requires block { IsBlock (authentication_key self.now.key nonce.now) }
         requires multiplier { IsReversedMulX (authentication_key self.now.key nonce.now)
             (M.key_bytes multiplier) }
-        ensures keyed { ⟦<NoncedGcmSiv<'k, 'n, M> as Message>⟧.keyed result ≡ self.now }
-        ensures nonce { ⟦<NoncedGcmSiv<'k, 'n, M> as Message>⟧.nonce result ≡ nonce.now }
+        ensures keyed { ⟦<Nonced<'k, 'n, PolyvalOrder, M> as Message>⟧.keyed result ≡ self.now }
+        ensures nonce { ⟦<Nonced<'k, 'n, PolyvalOrder, M> as Message>⟧.nonce result ≡ nonce.now }
     {
-        NoncedGcmSiv {
+        Nonced {
             suite: self.suite,
             key: &self.key,
             nonce,
             encryption,
             multiplier,
+            rule: PhantomData,
         }
     }
 }
@@ -141,54 +143,6 @@ pub(crate) fn encrypted_tag(encryption: &AesKey, nonce: &Nonce, digest: &Block) 
 {
     let block = Block::new(tag_block(digest.bytes(), nonce.bytes()));
     Tag::new(*encryption.encrypt_in_registers(&block).bytes())
-}
-
-// The inputs of one message: the suite, the key, the nonce, the message's encryption key, and a multiplier by its authentication key.
-#[derive(Drop)]
-pub(crate) struct NoncedGcmSiv<'k, 'n, M: Multiply> {
-    suite: Suite,
-    key: &'k AesKey,
-    nonce: &'n Nonce,
-    encryption: &'k AesKey,
-    multiplier: M,
-    ghost by_gcm_siv: { construction_of suite ≡ ByGcmSiv },
-    ghost encryption_is: { encryption.now ≡ encryption_key key.now nonce.now },
-    ghost block: { IsBlock (authentication_key key.now nonce.now) },
-    ghost multiplier_is: { ∥ IsReversedMulX (authentication_key key.now nonce.now) (M.key_bytes multiplier)
-        ∥₁ },
-}
-
-impl<'k, 'n, M: Multiply + Copy> Message for NoncedGcmSiv<'k, 'n, M> {
-    type Stream = CtrLe<'k>;
-
-    type Hash = Polyval<M>;
-
-    ghost keyed = { λ m. record { suite = m.suite; key = m.key.now } };
-
-    ghost nonce = { λ m. m.nonce.now };
-
-    fn suite(&self) -> Suite {
-        self.suite
-    }
-
-    #[inline(always)]
-    fn hash(&self) -> Polyval<M> {
-        Polyval::with(self.multiplier)
-    }
-
-    #[inline(always)]
-    fn tag(&self, digest: &Block) -> Tag {
-        encrypted_tag(self.encryption, self.nonce, digest)
-    }
-}
-
-impl<'k, 'n, M: Multiply + Copy> TwoPass for NoncedGcmSiv<'k, 'n, M> {
-    #[inline(always)]
-    fn mask(&self, tag: &Tag) -> CtrLe<'k> {
-        tag_mask(self.encryption, tag)
-    }
-
-    ghost by_gcm_siv = { λ n. n.by_gcm_siv };
 }
 
 impl Aead for GcmSiv {

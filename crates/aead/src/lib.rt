@@ -35,6 +35,7 @@ mod keys;
 mod mask;
 mod masking;
 mod message;
+mod nonced;
 mod one_pass;
 mod opener;
 mod pass_state;
