@@ -94,8 +94,6 @@ impl KeyAndNonce {
         }
     }
 
-    // ---- begin
-
     // Begins a pass under ChaCha20-Poly1305. Each construction has a function of its own, which is not inlined, since the compiler
     // clears the locals of all arms of a `match` when the function is entered.
     #[inline(never)]
@@ -304,9 +302,9 @@ impl KeyAndNonce {
         Ok(())
     }
 
-    /// Begins a message as [`KeyAndNonce::begin`] does, with the schedule of the key, and under AES-GCM with the key of GHASH, which is
-    /// the cipher of a block of zeros: under other suites the block makes no difference.
-    pub fn begin_by(
+    /// Begins a message under a suite of AES-GCM as [`KeyAndNonce::begin`] does, with the schedule of the key and the key of GHASH, which
+    /// is the cipher of a block of zeros.
+    pub fn begin_gcm_by(
         &mut self,
         state: &mut PassState,
         suite: Suite,
@@ -316,9 +314,10 @@ impl KeyAndNonce {
         nonce: &[u8],
         aad: &[u8],
     ) -> Result<(), Fault>
+        requires by { construction_of suite ≡ ByGcm }
         requires long { length key.now ≡ key_length suite }
         requires cipher { cipher.now ≡ key.now }
-        requires ghash_key { construction_of suite ≡ ByGcm → ghash_key.now ≡ hash_key key.now }
+        requires ghash_key { ghash_key.now ≡ hash_key key.now }
         ensures answer { let s = setting_of suite key.now nonce.now aad.now in
             MatchResult result (λ _. HasBegun self.new state.new s) (BeginRefused s) }
         ensures kept { OnErr result ((self.new ≡ self.old) × (state.new ≡ state.old)) }
@@ -326,24 +325,9 @@ impl KeyAndNonce {
     {
         let nonce = Nonce::from_slice(nonce)?;
         suite.check_aad(aad)?;
-        match suite.construction() {
-            Construction::ChaChaPoly => {
-                let key = Key32::from_slice(key)?;
-                self.begin_chacha(state, suite, &key, &nonce, aad);
-                Ok(())
-            }
-            Construction::Gcm => {
-                self.begin_gcm(state, suite, key, cipher, ghash_key, &nonce, aad);
-                Ok(())
-            }
-            Construction::GcmSiv => {
-                self.begin_siv(state, suite, cipher, &nonce, aad);
-                Ok(())
-            }
-        }
+        self.begin_gcm(state, suite, key, cipher, ghash_key, &nonce, aad);
+        Ok(())
     }
-
-    // ---- resumption
 
     /// Returns the key and the nonce of a message, to go on from a saved `state` of it. `KeyLength` if the key does not have the
     /// suite's length, then `NonceLength` if the nonce is not 12 bytes long, then `TagMismatch` if the state belongs to another key

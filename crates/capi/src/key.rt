@@ -114,7 +114,7 @@ fn begin_by_kept(
         Construction::ChaChaPoly => keys.begin(state, suite, key, nonce, aad),
         Construction::Gcm => {
             let (cipher, ghash_key) = (kept.aes(suite), kept.ghash_key(suite));
-            keys.begin_by(state, suite, key, &cipher, &ghash_key, nonce, aad)
+            keys.begin_gcm_by(state, suite, key, &cipher, &ghash_key, nonce, aad)
         }
         Construction::GcmSiv => keys.begin_siv_by(state, suite, &kept.aes(suite), nonce, aad),
     }
