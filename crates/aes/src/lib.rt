@@ -33,9 +33,7 @@ mod uses;
 
 pub use cipher::{inverse_is_the_only, is_permutation};
 pub use columns::round;
-pub use counter::{
-    Count, Ctr, CtrBe, CtrLe, FirstFour, KnownBlock, LastFour, blocks_count_on,
-};
+pub use counter::{Count, Ctr, CtrBe, CtrLe, FirstFour, KnownBlock, LastFour, blocks_count_on};
 pub use inverse_key::InverseKey;
 pub use key::AesKey;
 pub use schedule::schedule_recurs;

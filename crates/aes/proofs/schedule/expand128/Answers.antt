@@ -1,7 +1,9 @@
 use Rattle.std.proofs.Common.{◌≡◌, ℕ, ◌+◌, ◌*◌, ◌<◌, get_or, refl, arith, rules}
 use Rattle.aes.specs.Schedule.{schedule, rcon, round_count}
 use Rattle.aes.proofs.Permutation.{rcon_is_word}
-use Rattle.aes.proofs.MadeKeys.{has_words, begun_first, begun_more, begun_last, begun_at, round_constant, rotated, rotated_temp, rotated_temp_small, rotated_small, follows128, rotated_lanes, key_words_held, first_key, same_words}
+use Rattle.aes.proofs.MadeKeys.{has_words, begun_first, begun_more, begun_last, begun_at, round_constant}
+use Rattle.aes.proofs.MadeKeys.{rotated, rotated_temp, rotated_temp_small, rotated_small, follows128}
+use Rattle.aes.proofs.MadeKeys.{rotated_lanes, key_words_held, first_key, same_words}
 use Rattle.aes.proofs.schedule.expand128.Goals as goal
 
 pub loop-r-init : goal.loop-r-init

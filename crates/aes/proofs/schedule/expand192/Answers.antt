@@ -1,7 +1,10 @@
 use Rattle.std.proofs.Common.{◌≡◌, ℕ, ◌+◌, ◌*◌, ◌<◌, get_or, arith, rules}
 use Rattle.aes.specs.Schedule.{schedule, rcon, word, round_count}
 use Rattle.aes.proofs.Permutation.{rcon_is_word}
-use Rattle.aes.proofs.MadeKeys.{has_words, begun_first, begun_more, begun_last, begun_at, round_constant, rotated, rotated_temp, rotated_temp_small, rotated_small, follows192, follows192_rest, rotated_second_lanes, last_lanes, key_words_held, first_key, same_words}
+use Rattle.aes.proofs.MadeKeys.{has_words, begun_first, begun_more, begun_last, begun_at, round_constant}
+use Rattle.aes.proofs.MadeKeys.{rotated, rotated_temp, rotated_temp_small, rotated_small, follows192}
+use Rattle.aes.proofs.MadeKeys.{follows192_rest, rotated_second_lanes, last_lanes, key_words_held, first_key}
+use Rattle.aes.proofs.MadeKeys.{same_words}
 use Rattle.aes.proofs.schedule.expand192.Goals as goal
 
 pub loop-r-init : goal.loop-r-init
@@ -42,7 +45,8 @@ loop-r-preserved c =
     (λ q. rotated_temp_small key 6 (12 * r + 11) (2 * r + 1 + 1) q has) next_four
     (c.sub_word-in-loop-r.ensures (rotated key (12 * r + 11)) (λ q. get_or (rcon (2 * r + 1 + 1)) q 0)
     (λ q. rotated_small key 6 (12 * r + 11) q has) (λ q. rcon_is_word (2 * r + 1 + 1) q)
-    (rotated_second_lanes key c.rotated_second-in-loop-r.result c.follow-next_two.result (12 * r + 10) (12 * r + 11) next_two (omega arith) c.rotated_second-in-loop-r.ensures)
+    (rotated_second_lanes key c.rotated_second-in-loop-r.result c.follow-next_two.result (12 * r + 10) (12 * r + 11) next_two
+    (omega arith) c.rotated_second-in-loop-r.ensures)
     (λ i l. round_constant (2 * r + 1) i (omega arith) l))
     (follows192 key (2 * r + 1) (12 * r + 6) (12 * r + 12) (12 * r + 11) has (omega arith) (omega arith) (omega arith) (omega arith)) in
     let after_two = c.follow-two.ensures 2 ws (12 * r + 10) (12 * r + 16) (λ q. get_or (word key (12 * r + 15)) q 0) (omega arith) has.bytes

@@ -1,7 +1,10 @@
 use Rattle.std.proofs.Common.{◌≡◌, ℕ, ◌+◌, ◌*◌, ◌<◌, get_or, arith, rules}
 use Rattle.aes.specs.Schedule.{schedule, rcon, word, round_count}
 use Rattle.aes.proofs.Permutation.{rcon_is_word}
-use Rattle.aes.proofs.MadeKeys.{has_words, begun_first, begun_more, begun_last, begun_at, round_constant, rotated, rotated_temp, rotated_temp_small, rotated_small, halfway_temp, halfway_temp_small, no_constant, follows256, follows256_rest, rotated_lanes, last_lanes, key_words_held, first_key, same_words}
+use Rattle.aes.proofs.MadeKeys.{has_words, begun_first, begun_more, begun_last, begun_at, round_constant}
+use Rattle.aes.proofs.MadeKeys.{rotated, rotated_temp, rotated_temp_small, rotated_small, halfway_temp}
+use Rattle.aes.proofs.MadeKeys.{halfway_temp_small, no_constant, follows256, follows256_rest, rotated_lanes}
+use Rattle.aes.proofs.MadeKeys.{last_lanes, key_words_held, first_key, same_words}
 use Rattle.aes.proofs.schedule.expand256.Goals as goal
 
 pub loop-r-init : goal.loop-r-init
