@@ -136,6 +136,7 @@ pub(crate) fn mask_at(key: &Key32, nonce: &Nonce, done: u64) -> ChaStream
 }
 
 // Returns the tag, which is the hash.
+#[inline(always)]
 pub(crate) fn hash_as_tag(digest: &Block) -> Tag
     ensures { (s : Setting) (m : List ℕ) → construction_of s.suite ≡ ByChaCha → digest.now ≡ digest_over s m
         → result ≡ tag_over s.suite s.key s.nonce s.aad m }

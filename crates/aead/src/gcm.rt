@@ -119,6 +119,7 @@ pub(crate) fn hash_keys(key: &AesKey, ghash_key: &Block, nonce: &Nonce) -> [u8; 
 }
 
 // Returns the tag: the hash, XORed with the cipher of J0 (SP 800-38D, 7.1).
+#[inline(always)]
 pub(crate) fn masked_tag(mask: &Block, digest: &Block) -> Tag
     ensures { (s : Setting) (m : List ℕ) → construction_of s.suite ≡ ByGcm → mask.now ≡ cipher s.key (j0 s.nonce)
         → digest.now ≡ digest_over s m → result ≡ tag_over s.suite s.key s.nonce s.aad m }

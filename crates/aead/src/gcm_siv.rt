@@ -126,6 +126,7 @@ pub(crate) fn hash_keys(hash_key: &Block) -> [u8; 32]
 }
 
 // Returns the block that is encrypted to the tag (RFC 8452, 4).
+#[inline(always)]
 fn tag_block(hash: &[u8; 16], nonce: &[u8; 12]) -> [u8; 16]
     ensures { result ≡ tag_block hash.now nonce.now }
 {
@@ -136,6 +137,7 @@ fn tag_block(hash: &[u8; 16], nonce: &[u8; 12]) -> [u8; 16]
 }
 
 // Returns the tag: the cipher of a block that the hash and the nonce give (RFC 8452, 4).
+#[inline(always)]
 pub(crate) fn encrypted_tag(encryption: &AesKey, nonce: &Nonce, digest: &Block) -> Tag
     ensures { (s : Setting) (m : List ℕ) → construction_of s.suite ≡ ByGcmSiv
         → encryption.now ≡ encryption_key s.key s.nonce → nonce.now ≡ s.nonce → digest.now ≡ digest_over s m

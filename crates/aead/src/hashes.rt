@@ -118,6 +118,7 @@ impl<M: Multiply, R: Rule> TagHash for BlockHash<M, R> {
         self.rest()
     }
 
+    #[inline(always)]
     fn digest(&mut self, aad_length: u64, bytes_length: u64) -> Block {
         self.pad16_and_add(&R::lengths(aad_length, bytes_length));
         self.hash()
