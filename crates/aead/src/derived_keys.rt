@@ -3,7 +3,6 @@
 ghost use Rattle.std.specs.Prelude.{◌≡◌, ℕ, ◌+◌, ◌<◌, ◌++◌, length, take};
 ghost use Rattle.std.specs.Int.{w32, to_le_bytes};
 ghost use Rattle.octets.specs.Bytes.{IsBlock, block_at};
-ghost use Rattle.aes.specs.Cipher.{IsKeyLength};
 ghost use Rattle.gf128.specs.Polyval.{IsReversedMulX};
 ghost use Rattle.aead.specs.Suites.{construction_of, key_length, ByGcmSiv};
 ghost use Rattle.aead.specs.Sealing.{key_part, authentication_key, encryption_key};
@@ -116,14 +115,6 @@ pub(crate) fn long_encryption_key(parts: &KeyParts) -> [u8; 32]
     joined(&first, &second)
 }
 
-// Expands a key of 16, 24 or 32 bytes.
-pub(crate) fn expanded(bytes: &[u8]) -> AesKey
-    requires { IsKeyLength (length bytes.now) }
-    ensures { result ≡ bytes.now }
-{
-    AesKey::from_slice(bytes).unwrap()
-}
-
 // Returns the key of POLYVAL's multiplier in GHASH's field (RFC 8452, appendix A). POLYVAL's key is parts 0 and 1 (RFC 8452, 4).
 pub(crate) fn hash_key(parts: &KeyParts) -> Block
     ensures value { IsReversedMulX (authentication_key parts.now.key.now parts.now.nonce.now) result }
@@ -153,8 +144,8 @@ impl DerivedKeys {
         let parts = KeyParts::new(key, nonce);
         let hash_key = hash_key(&parts);
         let encryption = match suite {
-            Suite::Aes128GcmSiv => expanded(&short_encryption_key(&parts)),
-            _ => expanded(&long_encryption_key(&parts)),
+            Suite::Aes128GcmSiv => AesKey::expanded(&short_encryption_key(&parts)),
+            _ => AesKey::expanded(&long_encryption_key(&parts)),
         };
         DerivedKeys {
             hash_key,

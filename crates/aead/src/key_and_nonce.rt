@@ -13,9 +13,7 @@ ghost use Rattle.aead.specs.Pieces.{MasksByBytes};
 ghost use Rattle.aead.specs.Code.MessageKeys.{construction_by, AreKeysOf};
 
 use crate::chacha_poly::one_time_key;
-use crate::derived_keys::{
-    KeyParts, expanded, hash_key, long_encryption_key, short_encryption_key,
-};
+use crate::derived_keys::{KeyParts, hash_key, long_encryption_key, short_encryption_key};
 use crate::gcm::hash_subkey;
 use crate::hashes::PolyKeys;
 use crate::keys::{AesKeys, CipherKeys, KeyBytes, MessageKeys};
@@ -154,7 +152,7 @@ impl KeyAndNonce {
         requires fits { length aad.now ≤ aad_limit suite }
         ensures { HasBegun self.new state.new (setting_of suite key.now nonce.now aad.now) }
     {
-        let cipher = expanded(key);
+        let cipher = AesKey::expanded(key);
         self.begin_gcm(
             state,
             suite,
@@ -233,7 +231,7 @@ impl KeyAndNonce {
         requires fits { length aad.now ≤ aad_limit suite }
         ensures { HasBegun self.new state.new (setting_of suite key.now nonce.now aad.now) }
     {
-        self.begin_siv(state, suite, &expanded(key), nonce, aad);
+        self.begin_siv(state, suite, &AesKey::expanded(key), nonce, aad);
     }
 
     /// Begins a message under a suite, the bytes of a key and of a nonce, and associated data: `state` becomes the initial state of a

@@ -12,7 +12,6 @@ ghost use Rattle.aead.specs.Code.Masks.{hashed_by};
 ghost use Rattle.aead.specs.Code.MessageKeys.{AreAesKeys};
 ghost use Rattle.aead.specs.Code.PassSteps.{MasksPiece, MasksPieceKnowing, TakesPiece, ChecksPiece, OpensPiece};
 
-use crate::derived_keys::expanded;
 use crate::hashes::PolyKeys;
 use crate::pass_state::PassState;
 use crate::suite::{Construction, Suite};
@@ -40,7 +39,7 @@ impl<'a> KeyBytes<'a> {
     pub(crate) fn schedule(&self) -> AesKey
         ensures { result ≡ take (key_length self.now.suite) self.now.key.now }
     {
-        expanded(&self.key[..self.suite.key_length()])
+        AesKey::expanded(&self.key[..self.suite.key_length()])
     }
 }
 

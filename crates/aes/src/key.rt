@@ -103,6 +103,21 @@ impl AesKey {
         })
     }
 
+    /// Makes the key with these bytes, 16, 24 or 32, as the caller shows (FIPS 197, 5). It is made in its place, while one that is taken
+    /// out of a `Result` is copied.
+    #[inline(always)]
+    pub fn expanded(key: &[u8]) -> AesKey
+        requires { IsKeyLength (length key.now) }
+        ensures value { result ≡ key.now }
+        ensures is_key { IsKey key.now }
+    {
+        let size = key.len() / 4;
+        AesKey {
+            keys: expand(key, size),
+            size,
+        }
+    }
+
     /// Returns the round keys in the form in which the rounds take them, and zeros after them, for a caller that stores plain
     /// bytes. The first round key is as the standard has it (FIPS 197, 5.2).
     pub fn ready_keys(&self) -> [[u8; 16]; 15]

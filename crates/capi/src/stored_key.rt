@@ -1,7 +1,7 @@
 //! A key that a caller in C keeps in its memory, with the values that depend on the key alone.
 
 ghost use Rattle.std.specs.Prelude.{◌≡◌, ◌-◌, length, drop, replicate, true};
-ghost use Rattle.aes.specs.Cipher.{IsKey, IsKeyLength};
+ghost use Rattle.aes.specs.Cipher.{IsKey};
 ghost use Rattle.aes.specs.Code.ReadyKeys.{KeepsReadyKeys};
 ghost use Rattle.gf128.specs.Code.PlainMultiples.{HasMultiples, no_multiples};
 ghost use Rattle.aead.specs.declared.suite.Suite.{Suite};
@@ -75,14 +75,6 @@ impl KeyNumbers {
     }
 }
 
-// Returns the schedule of a key of 16, 24 or 32 bytes.
-fn expanded(bytes: &[u8]) -> AesKey
-    requires { IsKeyLength (length bytes.now) }
-    ensures { result ≡ bytes.now }
-{
-    AesKey::from_slice(bytes).unwrap()
-}
-
 /// A key of a suite with the values that the suite needs and that depend on the key alone, in 808 bytes: the schedule of AES if the
 /// suite has AES, and the key of GHASH and its multiples under AES-GCM. The others are zeros. The caller in C has to see to it that a
 /// struct with the mark of a suite is as `aeadkit_key_init` left it. A struct with any other mark is refused.
@@ -119,7 +111,7 @@ impl StoredKey {
         ensures { IsOfKey result suite key.now }
     {
         let mut numbers = KeyNumbers::of_key(suite, key);
-        let aes = expanded(key);
+        let aes = AesKey::expanded(key);
         let ghash_key = hash_subkey(&aes);
         numbers.ready_keys = aes.ready_keys();
         let bytes = *ghash_key.bytes();
@@ -135,7 +127,7 @@ impl StoredKey {
         ensures { IsOfKey result suite key.now }
     {
         let mut numbers = KeyNumbers::of_key(suite, key);
-        numbers.ready_keys = expanded(key).ready_keys();
+        numbers.ready_keys = AesKey::expanded(key).ready_keys();
         StoredKey { numbers }
     }
 

@@ -151,7 +151,7 @@ fn run_gcm<D: Direction>(
         MatchResult result (λ _. D.done s text.old tag.old text.new tag.new)
         (D.refused s text.old tag.old text.new tag.new) }
 {
-    let key = AesKey::from_slice(key).unwrap();
+    let key = AesKey::expanded(key);
     D::run(
         &BorrowedGcm::new(suite, &key, &TableMul::of(&hash_subkey(&key))),
         nonce,
@@ -200,7 +200,7 @@ impl<'a> Keys for ByBytes<'a> {
             }
             Construction::Gcm => { run_gcm::<D>(suite, self.key, nonce, aad, text, tag) }
             Construction::GcmSiv => {
-                let cipher = GcmSiv::new(suite, AesKey::from_slice(self.key).unwrap());
+                let cipher = GcmSiv::new(suite, AesKey::expanded(self.key));
                 D::run(&cipher, nonce, aad, text, tag)
             }
         }

@@ -10,7 +10,7 @@ use Rattle.capi.proofs.stored_key.StoredKey.of_gcm.Goals as goal
 pub invariant_of-result : goal.invariant_of-result
 invariant_of-result c =
     let own = λ (s : Suite) (is : c.of_key-numbers.result.mark ≡ key_mark s).
-    c.expanded-aes.ensures ∙ sym c.of_key-numbers.ensures.key
+    c.expanded-aes.ensures.value ∙ sym c.of_key-numbers.ensures.key
     ∙ ap (λ (x : Suite). first_key x c.of_key-numbers.result.key)
     (one_suite c.args.suite s (sym c.of_key-numbers.ensures.mark ∙ is)) in
     let hashed = λ (s : Suite) (is : c.of_key-numbers.result.mark ≡ key_mark s).

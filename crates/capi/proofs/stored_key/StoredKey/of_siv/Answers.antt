@@ -14,7 +14,7 @@ invariant_of-result c =
     ap construction_of (sym (same s is)) ∙ c.requires.by in
     record {
       ready = λ s is has. subst (KeepsReadyKeys c.ready_keys-numbers.result)
-          (c.expanded.ensures ∙ sym c.of_key-numbers.ensures.key
+          (c.expanded.ensures.value ∙ sym c.of_key-numbers.ensures.key
           ∙ ap (λ (x : Suite). first_key x c.of_key-numbers.result.key) (same s is)) c.ready_keys-numbers.ensures;
       hashes = λ s is has. absurd (true≢false (sym has ∙ ap has_hash_key (by s is)));
       multiplied = λ s is has. absurd (true≢false (sym has ∙ ap has_hash_key (by s is)));
