@@ -4,6 +4,7 @@
 set -eu
 unset CDPATH
 claimed="1 2 3 4 5 6 16 24 32"
+for suite in 1 2 3 4 5 6; do claimed="$claimed $suite:aeadkit.(seal|open)-file"; done
 suites="1 2 3 4 5 6 16 24 32"
 calls='\S*'
 lengths=whole

@@ -7,6 +7,7 @@
    PUBLIC=LENGTH, under memcheck, is the length of the text of a wrapping with padding. The program decrypts it, so for memcheck it
    is secret; but like the validity of the wrapping it is a verdict, and the program goes on with it. It is made public when memory
    is next asked for or returned.
+   CHANGED=READING flips a bit of the byte at DIFFERENCE in one reading of the file. Readings are counted from 1 as they are begun.
    GROUP=LENGTH begins a group of runs over texts of this length; each later run of it has GROUP=-. The variables of all have the
    same length, since the stack begins below them. */
 #include "marks.h"
@@ -16,14 +17,20 @@
 #include <unistd.h>
 #include <valgrind/memcheck.h>
 
-enum { MOST_SECRETS = 2, MOST_BYTES = 2048 };
+enum { MOST_SECRETS = 2, MOST_BYTES = 2048, MOST_READINGS = 3 };
 
 static struct { unsigned char bytes[MOST_BYTES]; size_t length; } secrets[MOST_SECRETS];
 static size_t secret_count, found, last_size;
 static void *last;
-static int reads_secrets;
+static int reads_secrets, readings[MOST_READINGS], reading_count, changed;
+static size_t difference, offset;
 static uint32_t public_length; /* or 0 */
 extern void *__libc_stack_end;
+
+static int number_of(const char *variable) {
+    const char *digits = getenv(variable);
+    return digits ? atoi(digits) : 0;
+}
 
 __attribute__((constructor)) static void begin(void) {
     if (!RUNNING_ON_VALGRIND) return; /* but one of the programs that start it */
@@ -33,11 +40,12 @@ __attribute__((constructor)) static void begin(void) {
         digits += *digits == ' ';
     }
     reads_secrets = getenv("READS") != NULL;
-    const char *length = getenv("PUBLIC");
-    if (length) public_length = (uint32_t)atoi(length);
+    changed = number_of("CHANGED");
+    difference = (size_t)number_of("DIFFERENCE");
+    public_length = (uint32_t)number_of("PUBLIC");
     VALGRIND_DISABLE_ERROR_REPORTING;
     print_places(stderr);
-    length = getenv("GROUP");
+    const char *length = getenv("GROUP");
     if (length && *length != '-') {
         fprintf(stderr, "group %s 0 0\n", length);
         ct_group = 1;
@@ -91,10 +99,25 @@ void free(void *block) {
     next(block);
 }
 
+/* The number of the reading for which a file is read. */
+static int reading_of(int file) {
+    int reading = 0;
+    while (reading < reading_count && readings[reading] != file) reading++;
+    if (reading == reading_count && reading < MOST_READINGS) readings[reading_count++] = file;
+    return reading + 1;
+}
+
+/* Flips the bit, if it is among the next bytes of its reading, by the same instructions and addresses wherever it is. */
+static void change(uint8_t *bytes, size_t count) {
+    for (size_t i = 0; i < count; i++) bytes[i] ^= offset + i == difference;
+    offset += count;
+}
+
 ssize_t read(int file, void *to, size_t length) {
     static ssize_t (*next)(int, void *, size_t);
     if (!next) *(void **)&next = dlsym(RTLD_NEXT, "read");
     ssize_t count = next(file, to, length);
+    if (changed && count > 0 && reading_of(file) == changed) change(to, (size_t)count);
     if (reads_secrets && count > 0) (void)VALGRIND_MAKE_MEM_UNDEFINED(to, count);
     return count;
 }

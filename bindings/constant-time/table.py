@@ -3,8 +3,9 @@
 A site is an instruction, of which one of these is said:
   branch    a conditional jump, or a jump to an address, that depends on a secret: memcheck reports it, or traces part there
   address   an instruction that reads or writes at an address that depends on a secret: the same
-  verdict   a branch that memcheck reports, at which the traces of all secrets agree as long as the verdict is the same, which
-            goes elsewhere when the verdict is another one, and which verdicts.txt names. The verdict is public.
+  verdict   a branch, or an address if verdicts.txt says so, that memcheck reports, at which the traces of all secrets agree as
+            long as the verdict is the same, which goes elsewhere when the verdict is another one, and which verdicts.txt names.
+            The verdict is public.
 """
 import argparse
 import concurrent.futures
@@ -17,9 +18,14 @@ import sys
 NAMES = {"1": "ChaCha20-Poly1305", "2": "AES-128-GCM", "3": "AES-192-GCM", "4": "AES-256-GCM", "5": "AES-128-GCM-SIV",
          "6": "AES-256-GCM-SIV", "16": "key wrap, AES-128", "24": "key wrap, AES-192", "32": "key wrap, AES-256"}
 KEYS = {"1": 32, "2": 16, "3": 24, "4": 32, "5": 16, "6": 32, "16": 16, "24": 24, "32": 32}
-FILE_COMMANDS = [("seal-file", "ok"), ("open-file", "ok"), ("open-file", "no")]
+FILE_COMMANDS = [("seal-file", "ok")] + [("open-file", variant) for variant in ("ok", "no", "second", "last")]
+SIV_COMMANDS = [("seal-file", "last")]
 WRAP_COMMANDS = [(command + pad, variant) for pad in ("", " --pad")
                  for command, variant in (("wrap", "ok"), ("unwrap", "ok"), ("unwrap", "no"))]
+# What the table says of the variants of a call, and with which status the program ends: the call succeeds; it refuses; or one reading
+# of a file is over other bytes than those before it: the second of an opening has another tag, the last one another text.
+VARIANTS = {"ok": "", "no": ", refused", "second": ", second reading changed", "last": ", last reading changed"}
+STATUSES = {"ok": 0, "no": 1, "second": 3, "last": 3}
 # The names of the library's calls. That of a command of the program is two words or more.
 OF_LIBRARY = r"\S+"
 # Under --short all calls of one suite of each construction, and of the others these. AES-192 has a schedule of its own.
@@ -110,7 +116,7 @@ class Cell:
 
     def status(self):
         """The status that each run has to end with."""
-        return 1 if self.variant == "no" and self.call.startswith("aeadkit ") else 0
+        return STATUSES[self.variant] if self.call.startswith("aeadkit ") else 0
 
     def reports(self, more):
         """Returns what memcheck reports: places and kinds."""
@@ -152,11 +158,12 @@ class Cell:
             if kind == "address" or (place, kind) in whole or near:
                 self.sites.setdefault((place, kind), Site()).taint = True
 
-    def trace(self):
+    def trace(self, places):
+        """Traces the runs, and follows where they go from these places."""
         traced = self.target.traced
-        jumps = [f"{traced.address(place):x}" for place, kind in self.sites if kind == "branch" and traced.address(place)]
+        followed = [f"{traced.address(place):x}" for place in places if traced.address(place)]
         read, write = os.pipe()
-        cut = subprocess.Popen([f"{options.room}/traces", *self.target.marks, *jumps], stdin=read, stdout=subprocess.PIPE,
+        cut = subprocess.Popen([f"{options.room}/traces", *self.target.marks, *followed], stdin=read, stdout=subprocess.PIPE,
                                text=True)
         os.close(read)
         lengths = []
@@ -186,16 +193,12 @@ class Cell:
         if not self.runs:
             self.faults.append("nothing was traced")
 
-    def look(self):
-        self.taint()
-        self.trace()
-        return self
-
-    def follows_verdict(self, place, other):
-        """Whether a branch goes another way at another verdict: another status, or another length of the text of a wrapping."""
-        mine, its = self.went.get(place, {}), other.went.get(place, {}) if other else {}
-        if any(way != its[lengths] for lengths, way in mine.items() if lengths in its):
-            return True
+    def follows_verdict(self, place, others):
+        """Whether a site goes another way at another verdict: another status, or another length of the text of a wrapping."""
+        mine = self.went.get(place, {})
+        for its in (other.went.get(place, {}) for other in others):
+            if any(way != its[lengths] for lengths, way in mine.items() if lengths in its):
+                return True
         return self.call in ("unwrap_padded", "aeadkit unwrap --pad") and any(
             way != of for (n, _), way in mine.items() for (m, _), of in mine.items() if (int(n) + 7) // 8 == (int(m) + 7) // 8)
 
@@ -224,6 +227,11 @@ def program_runs(cell, way):
                 words = ["--suite", NAMES[cell.suite].lower(), "--key", key, "--nonce", "01" * 12, "--aad", "02" * 5,
                          "--in", f"{room}.in", "--out", f"{room}.out"]
                 write_file(f"{room}.in", text)
+                if cell.variant in ("second", "last"):
+                    variables["CHANGED"] = "3" if (command, cell.variant) == ("open-file", "last") else "2"
+                    # Where a tag that is read is another one is not secret: so it is the same place for each secret.
+                    at = (length - 1, 0, 8)[secret] if cell.variant == "last" else length + 8
+                    variables["DIFFERENCE"] = f"{at:05}"
                 if command == "seal-file":
                     variables["READS"] = "secret"
                 else:
@@ -237,7 +245,7 @@ def program_runs(cell, way):
 def forged(cell, sealed, secret):
     """Sealed bytes, where the cell wants a refusal with a byte of the tag changed, for each secret another one."""
     at = len(sealed) - (1, 16, 8)[secret]
-    return sealed if cell.variant == "ok" else sealed[:at] + bytes([sealed[at] ^ 1]) + sealed[at + 1:]
+    return sealed if cell.variant != "no" else sealed[:at] + bytes([sealed[at] ^ 1]) + sealed[at + 1:]
 
 
 def write_file(path, content):
@@ -246,10 +254,10 @@ def write_file(path, content):
 
 
 def lines_of(path):
-    """Rows 'CALLS FUNCTION # REASON'."""
+    """Rows 'CALLS FUNCTION [address] # REASON', as calls, function and kind of site."""
     with open(path, encoding="utf-8") as lines:
-        rows = [line.partition("#") for line in lines if line.strip() and not line.startswith("#")]
-    return [(*words.split(), reason.strip()) for words, _, reason in rows]
+        rows = [line.partition("#")[0].split() for line in lines if line.strip() and not line.startswith("#")]
+    return [(calls, function, *kind) if kind else (calls, function, "branch") for calls, function, *kind in rows]
 
 
 def claims(cell):
@@ -264,10 +272,17 @@ def asked(suite, call):
         options.lengths == "whole" or suite in SHORT_SUITES or re.fullmatch(SHORT_CALLS, call))
 
 
+def commands_of(suite):
+    """The commands of the program that work under a suite."""
+    if int(suite) > 6:
+        return WRAP_COMMANDS
+    return FILE_COMMANDS + SIV_COMMANDS if NAMES[suite].endswith("SIV") else FILE_COMMANDS
+
+
 def program_cells(build):
     """The program of a build, and its suites, commands and variants that are to be looked at."""
     rows = [(suite, f"aeadkit {command}", variant) for suite in NAMES
-            for command, variant in (WRAP_COMMANDS if int(suite) > 6 else FILE_COMMANDS)]
+            for command, variant in commands_of(suite)]
     rows = [row for row in rows if asked(*row[:2])]
     path = f"{options.room}/{build}/aeadkit"
     if rows and not os.path.exists(path):
@@ -292,6 +307,19 @@ def all_cells(builds):
     return cells, known
 
 
+def siblings(cells, cell):
+    """The cells of the same call, in all its variants."""
+    return [other for other in cells.values()
+            if (other.target, other.suite, other.call) == (cell.target, cell.suite, cell.call)]
+
+
+def look(cells, pool):
+    """Looks at all cells, in both ways. The traces of a call follow the sites of all its variants."""
+    list(pool.map(Cell.taint, cells.values()))
+    places = [{place for other in siblings(cells, cell) for place, _ in other.sites} for cell in cells.values()]
+    list(pool.map(Cell.trace, cells.values(), places))
+
+
 def judge(cells, known):
     """Returns the counts of each call, the places, what fails, and the lines of verdicts.txt that no site needed."""
     failures, places, counts, verdicts = [], {}, {}, lines_of(options.verdicts)
@@ -307,13 +335,14 @@ def judge(cells, known):
         if cell.undefined and not re.fullmatch(VERDICTS, call):
             failures.append(f"{cell.label}: the status depends on a secret")
         count = counts.setdefault((suite, call, variant), {})[name] = {"branch": 0, "address": 0, "verdict": 0}
-        other = cells.get((name, suite, call, "no" if variant == "ok" else "ok"))
+        others = [other for other in siblings(cells, cell) if other is not cell]
         for (place, kind), site in cell.sites.items():
             function, instruction = cell.target.where(place)
-            if kind == "branch" and not site.trace and cell.follows_verdict(place, other):
-                named = [row for row in verdicts if re.fullmatch(row[0], call) and re.fullmatch(row[1], function)]
+            if not site.trace and cell.follows_verdict(place, others):
+                named = [row for row in verdicts
+                         if re.fullmatch(row[0], call) and re.fullmatch(row[1], function) and row[2] == kind]
                 unused = [row for row in unused if row not in named]
-                kind = "verdict" if named else "branch"
+                kind = "verdict" if named else kind
             count[kind] += 1
             places.setdefault((function, kind), {}).setdefault((name, place), []).append((cell, site))
             if kind != "verdict" and claims(cell):
@@ -350,7 +379,7 @@ def table(builds, counts, places):
     yield ""
     rows = [["suite", "call"] + [f"{build}: {what}" for build in builds for what in ("branches", "addresses", "verdicts")]]
     for (suite, call, variant), of in sorted(counts.items(), key=lambda row: int(row[0][0])):
-        rows.append([NAMES[suite], call + ("" if variant == "ok" else ", refused")]
+        rows.append([NAMES[suite], call + VARIANTS[variant]]
                     + [str(of[build][kind]) for build in builds for kind in ("branch", "address", "verdict")])
     yield from markdown(rows)
     yield ""
@@ -385,7 +414,7 @@ def main():
     builds = options.builds.split()
     cells, known = all_cells(builds)
     with concurrent.futures.ThreadPoolExecutor(int(options.jobs)) as pool:
-        list(pool.map(Cell.look, cells.values()))
+        look(cells, pool)
     counts, places, failures, unused = judge(cells, known)
     lines = [*table(builds, counts, places), ""]
     for target in dict.fromkeys(cell.target for cell in cells.values() if cell.suite != "0"):

@@ -5,7 +5,8 @@
    GROUP, SECRET, ON, OFF: the addresses of the marks (marks.h), by which the trace is cut.
    Prints 'site PC branch|address LOW HIGH': the instruction after which two runs differ, or whose address does, and the least and
    the greatest of these addresses.
-   Prints 'went PC GROUP HASH COUNT' for each PC that is given: where the first run of a group went from there.
+   Prints 'went PC GROUP HASH COUNT' for each PC that is given: where the first run of a group went from there, and at which
+   addresses it read and wrote there.
    Prints 'ran PC' for each instruction that ran, 'lost GROUP' if two runs do not come together again, and at the end 'runs COUNT
    INSTRUCTIONS'. */
 #include <stdint.h>
@@ -125,8 +126,12 @@ int main(int argc, char **argv) {
             runs++;
             for (int w = 5; !before && w < argc; w++) {
                 uint64_t pc = strtoull(argv[w], NULL, 16), hash = 0, count = 0;
-                for (size_t i = 0; i + 1 < run->count; i++)
-                    if (run->pc[i] == pc) hash = (hash ^ run->pc[i + 1]) * 0x100000001B3u + 1, count++;
+                for (size_t i = 0; i + 1 < run->count; i++) {
+                    if (run->pc[i] != pc) continue;
+                    hash = (hash ^ run->pc[i + 1]) * 0x100000001B3u + 1, count++;
+                    for (uint32_t d = run->first[i]; d < run->first[i + 1]; d++)
+                        hash = (hash ^ run->data[d]) * 0x100000001B3u + 1;
+                }
                 printf("went %llx %u %llx %llu\n", (unsigned long long)pc, group, (unsigned long long)hash,
                        (unsigned long long)count);
             }
