@@ -13,9 +13,9 @@ filled() {
 # Lays the JavaScript package of a repository out in a folder, where its module is: javascript REPOSITORY FOLDER
 javascript() {
     for name in aeadkit.mjs aeadkit.d.mts node.mjs node.d.mts; do
-        cp "$1/bindings/wasm/$name" "$2/"
+        cp "$1/packages/javascript/$name" "$2/"
     done
-    filled "$1/bindings/wasm/package.json" "$(version_of "$1")" > "$2/package.json"
+    filled "$1/packages/javascript/package.json" "$(version_of "$1")" > "$2/package.json"
 }
 
 # Copies the crates that ROOM/crates.txt names from a repository: crates REPOSITORY ROOM
@@ -53,10 +53,10 @@ proved() {
 }
 
 # Lays into the copy the one source file, of the crate `octets`, that fits the processor: fit REPOSITORY ROOM [rattle's flags]
-# For one with AVX2 it is bindings/avx2/vector_width.txt, else that of the repository. The gate lets no .rt file stand outside a crate.
+# For one with AVX2 it is tools/build/vector_width_avx2.txt, else that of the repository. The gate lets no .rt file stand outside a crate.
 fit() {
     source=$1/crates/octets/src/vector_width.rt
-    case " $* " in *" --cpu"[=\ ]x86-64-v[34]" "*) source=$1/bindings/avx2/vector_width.txt ;; esac
+    case " $* " in *" --cpu"[=\ ]x86-64-v[34]" "*) source=$1/tools/build/vector_width_avx2.txt ;; esac
     cp "$source" "$2/crates/octets/src/vector_width.rt"
 }
 

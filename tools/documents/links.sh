@@ -3,7 +3,7 @@
 set -eu
 if [ $# -gt 1 ]; then
     echo "usage: links.sh [REPOSITORY]
-It looks at README.md, docs/*.md and bindings/README.md:
+It looks at README.md, docs/*.md and packages/README.md:
   [text](target)            target is a file or folder of the repository; what follows a # is a heading of that document
   [\`name\`](path.rt)         the file defines the name: a function, a type, a trait or a constant, or as \`Type::name\` a
                             function in an impl or a trait of the type
@@ -19,9 +19,9 @@ LC_ALL=C
 export LC_ALL
 room=$(mktemp -d)
 trap 'rm -rf "$room"' EXIT
-find README.md crates.txt HANDLES docs bindings crates \( -path 'crates/*/out' -o -path 'bindings/rust/target' -o -name __pycache__ \) -prune \
+find README.md crates.txt HANDLES docs bindings crates \( -path 'crates/*/out' -o -path 'packages/rust/target' -o -name __pycache__ \) -prune \
     -o -print > "$room/paths"
-find README.md bindings/README.md docs -name '*.md' -type f | sort | xargs awk -v paths="$room/paths" '
+find README.md packages/README.md docs -name '*.md' -type f | sort | xargs awk -v paths="$room/paths" '
 function wrong(message) { print FILENAME ":" FNR ": " message | "cat >&2"; bad = 1 }
 
 # The path that a target has from the folder of a document, without steps up.

@@ -260,7 +260,7 @@ sed '$d' "$room/page" > "$room/right"
 if [ $write = yes ]; then
     cat "$room/right" > "$page"
 elif ! diff "$page" "$room/right" >&2; then
-    echo "$page (<) has other numbers than the definitions (>): bindings/believe.sh --write mends them" >&2
+    echo "$page (<) has other numbers than the definitions (>): tools/documents/believe.sh --write mends them" >&2
     exit 1
 fi
 # README names the lines of a suite, of all six, and of the vector file with its faults.
