@@ -288,7 +288,7 @@ export class Aead {
         const aad = aadOf(options);
         wantBytes(key, nonce, text);
         wantNumber(suite);
-        return this.#module.made(text.length + TAG_BYTES, "aeadkit_seal", suite, key, nonce, aad, text);
+        return this.#module.made(text.length + TAG_BYTES, "aeadkit_seal", suite, key, nonce, text, aad);
     }
 
     /** Returns the text of what `seal` made. */
@@ -296,7 +296,7 @@ export class Aead {
         const aad = aadOf(options);
         wantBytes(key, nonce, sealed);
         wantNumber(suite);
-        return this.#module.made(Math.max(0, sealed.length - TAG_BYTES), "aeadkit_open", suite, key, nonce, aad, sealed);
+        return this.#module.made(Math.max(0, sealed.length - TAG_BYTES), "aeadkit_open", suite, key, nonce, sealed, aad);
     }
 
     /** Seals a text where it stands, and returns the tag of 16 bytes. Never use a nonce twice under one key. */
@@ -305,7 +305,7 @@ export class Aead {
         wantBytes(key, nonce, text);
         wantNumber(suite);
         const tag = new Uint8Array(TAG_BYTES);
-        this.#module.call("aeadkit_seal_in_place", suite, key, nonce, aad, inPlace(text), result(tag));
+        this.#module.call("aeadkit_seal_in_place", suite, key, nonce, inPlace(text), aad, result(tag));
         return tag;
     }
 
@@ -315,7 +315,7 @@ export class Aead {
         wantBytes(key, nonce, ciphertext);
         wantTag(tag);
         wantNumber(suite);
-        this.#module.call("aeadkit_open_in_place", suite, key, nonce, aad, inPlace(ciphertext), constant(tag));
+        this.#module.call("aeadkit_open_in_place", suite, key, nonce, inPlace(ciphertext), aad, constant(tag));
     }
 
     /** Returns the length of a suite's keys in bytes. */
@@ -385,7 +385,7 @@ export class Key {
     seal(nonce, text, options = {}) {
         const aad = aadOf(options);
         wantBytes(nonce, text);
-        return this.#module.made(text.length + TAG_BYTES, "aeadkit_seal_with", this.#struct.constant, nonce, aad, text);
+        return this.#module.made(text.length + TAG_BYTES, "aeadkit_seal_with", this.#struct.constant, nonce, text, aad);
     }
 
     /** Returns the text of what `seal` made. */
@@ -393,7 +393,7 @@ export class Key {
         const aad = aadOf(options);
         wantBytes(nonce, sealed);
         const length = Math.max(0, sealed.length - TAG_BYTES);
-        return this.#module.made(length, "aeadkit_open_with", this.#struct.constant, nonce, aad, sealed);
+        return this.#module.made(length, "aeadkit_open_with", this.#struct.constant, nonce, sealed, aad);
     }
 
     /** Seals a text where it stands, and returns the tag of 16 bytes. Never use a nonce twice under one key. */
@@ -401,7 +401,7 @@ export class Key {
         const aad = aadOf(options);
         wantBytes(nonce, text);
         const tag = new Uint8Array(TAG_BYTES);
-        this.#module.call("aeadkit_seal_in_place_with", this.#struct.constant, nonce, aad, inPlace(text), result(tag));
+        this.#module.call("aeadkit_seal_in_place_with", this.#struct.constant, nonce, inPlace(text), aad, result(tag));
         return tag;
     }
 
@@ -410,7 +410,7 @@ export class Key {
         const aad = aadOf(options);
         wantBytes(nonce, ciphertext);
         wantTag(tag);
-        this.#module.call("aeadkit_open_in_place_with", this.#struct.constant, nonce, aad, inPlace(ciphertext), constant(tag));
+        this.#module.call("aeadkit_open_in_place_with", this.#struct.constant, nonce, inPlace(ciphertext), aad, constant(tag));
     }
 
     /** Begins a sealing in pieces, of an empty text so far. Never use a nonce twice under one key. */

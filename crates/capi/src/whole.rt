@@ -314,8 +314,8 @@ pub extern "C" fn aeadkit_seal_in_place(
     suite: u32,
     key: &[u8],
     nonce: &[u8],
-    aad: &[u8],
     text: &mut [u8],
+    aad: &[u8],
     tag: &mut [u8; 16],
 ) -> u32
     ensures known { (named : Suite) → suite ≡ suite_number named → let s =
@@ -343,8 +343,8 @@ pub extern "C" fn aeadkit_open_in_place(
     suite: u32,
     key: &[u8],
     nonce: &[u8],
-    aad: &[u8],
     text: &mut [u8],
+    aad: &[u8],
     tag: &[u8; 16],
 ) -> u32
     ensures known { (named : Suite) → suite ≡ suite_number named → let s =
@@ -377,8 +377,8 @@ pub extern "C" fn aeadkit_seal(
     suite: u32,
     key: &[u8],
     nonce: &[u8],
-    aad: &[u8],
     text: &[u8],
+    aad: &[u8],
     sealed: &mut [u8],
 ) -> u32
     ensures known { (named : Suite) → suite ≡ suite_number named
@@ -402,8 +402,8 @@ pub extern "C" fn aeadkit_open(
     suite: u32,
     key: &[u8],
     nonce: &[u8],
-    aad: &[u8],
     sealed: &[u8],
+    aad: &[u8],
     text: &mut [u8],
 ) -> u32
     ensures known { (named : Suite) → suite ≡ suite_number named

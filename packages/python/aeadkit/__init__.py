@@ -342,7 +342,7 @@ def seal(suite: int, key: Buffer, nonce: Buffer, text: Buffer, *, aad: Optional[
     """
     plain = _bytes_of(text)
     return _output(len(plain) + _TAG_BYTES, _library.aeadkit_seal, _suite_of(suite),
-                   *_slices(key, nonce, _aad_of(aad), plain))
+                   *_slices(key, nonce, plain, _aad_of(aad)))
 
 
 def open(suite: int, key: Buffer, nonce: Buffer, sealed: Buffer, *, aad: Optional[Buffer] = None) -> bytes:
@@ -357,7 +357,7 @@ def open(suite: int, key: Buffer, nonce: Buffer, sealed: Buffer, *, aad: Optiona
     """
     data = _bytes_of(sealed)
     return _output(max(len(data) - _TAG_BYTES, 0), _library.aeadkit_open, _suite_of(suite),
-                   *_slices(key, nonce, _aad_of(aad), data))
+                   *_slices(key, nonce, data, _aad_of(aad)))
 
 
 def seal_in_place(suite: int, key: Buffer, nonce: Buffer, text: Buffer, *, aad: Optional[Buffer] = None) -> bytes:
@@ -371,7 +371,8 @@ def seal_in_place(suite: int, key: Buffer, nonce: Buffer, text: Buffer, *, aad: 
 
     Raises UnknownSuite, KeyLength, NonceLength, AadTooLong or TextTooLong; or TypeError if the buffer is not writable.
     """
-    return _tag(_in_place, text, _library.aeadkit_seal_in_place, (_suite_of(suite), *_slices(key, nonce, _aad_of(aad))))
+    return _tag(_in_place, text, _library.aeadkit_seal_in_place, (_suite_of(suite), *_slices(key, nonce)),
+                *_slices(_aad_of(aad)))
 
 
 def open_in_place(suite: int, key: Buffer, nonce: Buffer, ciphertext: Buffer, tag: Buffer, *,
@@ -392,7 +393,7 @@ def open_in_place(suite: int, key: Buffer, nonce: Buffer, ciphertext: Buffer, ta
     valid sealing under this suite, key, nonce and associated data; or TypeError if the buffer is not writable.
     """
     _check(_in_place(ciphertext, _library.aeadkit_open_in_place,
-                     (_suite_of(suite), *_slices(key, nonce, _aad_of(aad))), _tag_of(tag)))
+                     (_suite_of(suite), *_slices(key, nonce)), *_slices(_aad_of(aad)), _tag_of(tag)))
 
 
 # ---- Structs
@@ -541,7 +542,7 @@ class Key(_HasStruct):
         """
         plain = _bytes_of(text)
         return _output(len(plain) + _TAG_BYTES, _library.aeadkit_seal_with, self._get_struct(),
-                       *_slices(nonce, _aad_of(aad), plain))
+                       *_slices(nonce, plain, _aad_of(aad)))
 
     def open(self, nonce: Buffer, sealed: Buffer, *, aad: Optional[Buffer] = None) -> bytes:
         """Returns the text of a sealing.
@@ -555,7 +556,7 @@ class Key(_HasStruct):
         """
         data = _bytes_of(sealed)
         return _output(max(len(data) - _TAG_BYTES, 0), _library.aeadkit_open_with, self._get_struct(),
-                       *_slices(nonce, _aad_of(aad), data))
+                       *_slices(nonce, data, _aad_of(aad)))
 
     def seal_in_place(self, nonce: Buffer, text: Buffer, *, aad: Optional[Buffer] = None) -> bytes:
         """Seals a text in a writable buffer, such as a bytearray: the text becomes its ciphertext. Returns the tag of 16 bytes,
@@ -570,7 +571,8 @@ class Key(_HasStruct):
         Raises NonceLength, AadTooLong or TextTooLong; NotBegun if __init__ raised an exception, and after close; or TypeError
         if the buffer is not writable.
         """
-        return _tag(_in_place, text, _library.aeadkit_seal_in_place_with, (self._get_struct(), *_slices(nonce, _aad_of(aad))))
+        return _tag(_in_place, text, _library.aeadkit_seal_in_place_with, (self._get_struct(), *_slices(nonce)),
+                    *_slices(_aad_of(aad)))
 
     def open_in_place(self, nonce: Buffer, ciphertext: Buffer, tag: Buffer, *, aad: Optional[Buffer] = None) -> None:
         """Opens a sealing whose ciphertext is in a writable buffer, such as a bytearray: the ciphertext becomes its text.
@@ -590,7 +592,7 @@ class Key(_HasStruct):
         buffer is not writable.
         """
         _check(_in_place(ciphertext, _library.aeadkit_open_in_place_with,
-                         (self._get_struct(), *_slices(nonce, _aad_of(aad))), _tag_of(tag)))
+                         (self._get_struct(), *_slices(nonce)), *_slices(_aad_of(aad)), _tag_of(tag)))
 
     def sealer(self, nonce: Buffer, *, aad: Optional[Buffer] = None) -> "Sealer":
         """Begins a sealing in pieces under ChaCha20-Poly1305 or AES-GCM. The Key may be closed meanwhile.

@@ -14,37 +14,37 @@ unsafe extern "C" {
 
     #[rustfmt::skip]
     fn aeadkit_seal_in_place(suite: u32, key: *const u8, key_length: usize, nonce: *const u8, nonce_length: usize,
-                             aad: *const u8, aad_length: usize, text: *mut u8, text_length: usize,
+                             text: *mut u8, text_length: usize, aad: *const u8, aad_length: usize,
                              tag: *mut [u8; 16]) -> u32;
     #[rustfmt::skip]
     fn aeadkit_open_in_place(suite: u32, key: *const u8, key_length: usize, nonce: *const u8, nonce_length: usize,
-                             aad: *const u8, aad_length: usize, text: *mut u8, text_length: usize,
+                             text: *mut u8, text_length: usize, aad: *const u8, aad_length: usize,
                              tag: *const [u8; 16]) -> u32;
     #[rustfmt::skip]
     fn aeadkit_seal(suite: u32, key: *const u8, key_length: usize, nonce: *const u8, nonce_length: usize,
-                    aad: *const u8, aad_length: usize, text: *const u8, text_length: usize,
+                    text: *const u8, text_length: usize, aad: *const u8, aad_length: usize,
                     sealed: *mut u8, sealed_length: usize) -> u32;
     #[rustfmt::skip]
     fn aeadkit_open(suite: u32, key: *const u8, key_length: usize, nonce: *const u8, nonce_length: usize,
-                    aad: *const u8, aad_length: usize, sealed: *const u8, sealed_length: usize,
+                    sealed: *const u8, sealed_length: usize, aad: *const u8, aad_length: usize,
                     text: *mut u8, text_length: usize) -> u32;
 
     fn aeadkit_key_init(kept: *mut Key, suite: u32, key: *const u8, key_length: usize) -> u32;
     fn aeadkit_key_wipe(kept: *mut Key);
     #[rustfmt::skip]
     fn aeadkit_seal_in_place_with(kept: *const Key, nonce: *const u8, nonce_length: usize,
-                                  aad: *const u8, aad_length: usize, text: *mut u8, text_length: usize,
+                                  text: *mut u8, text_length: usize, aad: *const u8, aad_length: usize,
                                   tag: *mut [u8; 16]) -> u32;
     #[rustfmt::skip]
     fn aeadkit_open_in_place_with(kept: *const Key, nonce: *const u8, nonce_length: usize,
-                                  aad: *const u8, aad_length: usize, text: *mut u8, text_length: usize,
+                                  text: *mut u8, text_length: usize, aad: *const u8, aad_length: usize,
                                   tag: *const [u8; 16]) -> u32;
     #[rustfmt::skip]
-    fn aeadkit_seal_with(kept: *const Key, nonce: *const u8, nonce_length: usize, aad: *const u8, aad_length: usize,
-                         text: *const u8, text_length: usize, sealed: *mut u8, sealed_length: usize) -> u32;
+    fn aeadkit_seal_with(kept: *const Key, nonce: *const u8, nonce_length: usize, text: *const u8, text_length: usize,
+                         aad: *const u8, aad_length: usize, sealed: *mut u8, sealed_length: usize) -> u32;
     #[rustfmt::skip]
-    fn aeadkit_open_with(kept: *const Key, nonce: *const u8, nonce_length: usize, aad: *const u8, aad_length: usize,
-                         sealed: *const u8, sealed_length: usize, text: *mut u8, text_length: usize) -> u32;
+    fn aeadkit_open_with(kept: *const Key, nonce: *const u8, nonce_length: usize, sealed: *const u8, sealed_length: usize,
+                         aad: *const u8, aad_length: usize, text: *mut u8, text_length: usize) -> u32;
 
     #[rustfmt::skip]
     fn aeadkit_wrap(key: *const u8, key_length: usize, text: *const u8, text_length: usize,
@@ -105,7 +105,7 @@ pub fn seal_in_place(
 ) -> u32 {
     let (k, n, a, t) = (key.as_ptr(), nonce.as_ptr(), aad.as_ptr(), text.as_mut_ptr());
     // SAFETY: each pointer and length are those of one slice or array, and only text and tag, which are exclusive, are written.
-    unsafe { aeadkit_seal_in_place(suite, k, key.len(), n, nonce.len(), a, aad.len(), t, text.len(), tag) }
+    unsafe { aeadkit_seal_in_place(suite, k, key.len(), n, nonce.len(), t, text.len(), a, aad.len(), tag) }
 }
 
 pub fn open_in_place(
@@ -118,21 +118,21 @@ pub fn open_in_place(
 ) -> u32 {
     let (k, n, a, c) = (key.as_ptr(), nonce.as_ptr(), aad.as_ptr(), ciphertext.as_mut_ptr());
     // SAFETY: as of `seal_in_place`; only the ciphertext is written.
-    unsafe { aeadkit_open_in_place(suite, k, key.len(), n, nonce.len(), a, aad.len(), c, ciphertext.len(), tag) }
+    unsafe { aeadkit_open_in_place(suite, k, key.len(), n, nonce.len(), c, ciphertext.len(), a, aad.len(), tag) }
 }
 
 pub fn seal(suite: u32, key: &[u8], nonce: &[u8; 12], text: &[u8], sealed: &mut [u8], aad: &[u8]) -> u32 {
     let (k, n, a) = (key.as_ptr(), nonce.as_ptr(), aad.as_ptr());
     let (t, s, s_length) = (text.as_ptr(), sealed.as_mut_ptr(), sealed.len());
     // SAFETY: as of `seal_in_place`; only the sealing is written, which overlaps nothing since it is exclusive.
-    unsafe { aeadkit_seal(suite, k, key.len(), n, nonce.len(), a, aad.len(), t, text.len(), s, s_length) }
+    unsafe { aeadkit_seal(suite, k, key.len(), n, nonce.len(), t, text.len(), a, aad.len(), s, s_length) }
 }
 
 pub fn open(suite: u32, key: &[u8], nonce: &[u8; 12], sealed: &[u8], text: &mut [u8], aad: &[u8]) -> u32 {
     let (k, n, a) = (key.as_ptr(), nonce.as_ptr(), aad.as_ptr());
     let (s, t, t_length) = (sealed.as_ptr(), text.as_mut_ptr(), text.len());
     // SAFETY: as of `seal`; only the text is written.
-    unsafe { aeadkit_open(suite, k, key.len(), n, nonce.len(), a, aad.len(), s, sealed.len(), t, t_length) }
+    unsafe { aeadkit_open(suite, k, key.len(), n, nonce.len(), s, sealed.len(), a, aad.len(), t, t_length) }
 }
 
 /// `struct aeadkit_key` of the header. Only `key_init` writes it, and it is wiped when it is dropped.
@@ -164,25 +164,25 @@ pub fn key_init(kept: &mut Key, suite: u32, key: &[u8]) -> u32 {
 pub fn seal_in_place_with(kept: &Key, nonce: &[u8; 12], text: &mut [u8], tag: &mut [u8; 16], aad: &[u8]) -> u32 {
     let (n, a, t) = (nonce.as_ptr(), aad.as_ptr(), text.as_mut_ptr());
     // SAFETY: as of `seal_in_place`; the struct is zeros, or as `key_init` left it.
-    unsafe { aeadkit_seal_in_place_with(kept, n, nonce.len(), a, aad.len(), t, text.len(), tag) }
+    unsafe { aeadkit_seal_in_place_with(kept, n, nonce.len(), t, text.len(), a, aad.len(), tag) }
 }
 
 pub fn open_in_place_with(kept: &Key, nonce: &[u8; 12], ciphertext: &mut [u8], tag: &[u8; 16], aad: &[u8]) -> u32 {
     let (n, a, c) = (nonce.as_ptr(), aad.as_ptr(), ciphertext.as_mut_ptr());
     // SAFETY: as of `open_in_place` and of `seal_in_place_with`.
-    unsafe { aeadkit_open_in_place_with(kept, n, nonce.len(), a, aad.len(), c, ciphertext.len(), tag) }
+    unsafe { aeadkit_open_in_place_with(kept, n, nonce.len(), c, ciphertext.len(), a, aad.len(), tag) }
 }
 
 pub fn seal_with(kept: &Key, nonce: &[u8; 12], text: &[u8], sealed: &mut [u8], aad: &[u8]) -> u32 {
     let (n, a, t, s) = (nonce.as_ptr(), aad.as_ptr(), text.as_ptr(), sealed.as_mut_ptr());
     // SAFETY: as of `seal` and of `seal_in_place_with`.
-    unsafe { aeadkit_seal_with(kept, n, nonce.len(), a, aad.len(), t, text.len(), s, sealed.len()) }
+    unsafe { aeadkit_seal_with(kept, n, nonce.len(), t, text.len(), a, aad.len(), s, sealed.len()) }
 }
 
 pub fn open_with(kept: &Key, nonce: &[u8; 12], sealed: &[u8], text: &mut [u8], aad: &[u8]) -> u32 {
     let (n, a, s, t) = (nonce.as_ptr(), aad.as_ptr(), sealed.as_ptr(), text.as_mut_ptr());
     // SAFETY: as of `open` and of `seal_in_place_with`.
-    unsafe { aeadkit_open_with(kept, n, nonce.len(), a, aad.len(), s, sealed.len(), t, text.len()) }
+    unsafe { aeadkit_open_with(kept, n, nonce.len(), s, sealed.len(), a, aad.len(), t, text.len()) }
 }
 
 pub fn wrap(key: &[u8], text: &[u8], wrapped: &mut [u8]) -> u32 {
