@@ -10,6 +10,7 @@ number of lines of its definitions, and each lemma of the table of published val
 
 It prints 'ok: ..', or what differs. With --write it writes the sheets and the numbers first.
 """
+import os
 import re
 import sys
 from pathlib import Path
@@ -105,18 +106,20 @@ class Definitions:
                         self.inside[path, case.group(1)] = now
 
     def find(self, word, dotted, imported, path=None):
-        """The definition, or the module and name elsewhere, that a word means in a file."""
-        name = word
-        if word in imported:
-            module, name = imported[word]
-            if name is None:
-                name = dotted
-            path = path_of(module)
-            if not Path(path).exists():
-                return (module, name)
-        if path is None:
-            return None
-        return self.all.get((path, name)) or self.inside.get((path, name))
+        """The definition that a word means in a file; of a word from elsewhere, its module and name."""
+        if word not in imported:
+            return self.all.get((path, word)) or self.inside.get((path, word))
+        module, name = imported[word]
+        name = name or dotted
+        source = path_of(module)
+        if source not in self.imported:
+            return (module, name)
+        found = self.all.get((source, name)) or self.inside.get((source, name))
+        if found is None and name in self.imported[source]:
+            return self.find(name, '', self.imported[source], source)
+        if found is None:
+            wrong(f'{source} has no {name}, which a contract or a definition names')
+        return found
 
     def used(self, lines, imported, path=None):
         """What the words of some lines mean."""
@@ -269,8 +272,8 @@ def drop_cases(definition, without):
     kept, skip = [], False
     for line in definition.lines:
         if not line.startswith(' '):
-            case = re.match(re.escape(definition.name) + r' +(\([^)]*\)|\S+)', line)
-            skip = bool(case) and case.group(1).strip('()').split()[0] in without
+            name, _, case = line.partition(' ')
+            skip = name == definition.name and re.split(r'[ ()]+', case.lstrip(' ('), maxsplit=1)[0] in without
         if not skip:
             kept.append(line)
     return kept
@@ -280,64 +283,64 @@ class Maker:
     def __init__(self, definitions, calls, members, closed, meanings):
         self.definitions, self.calls, self.members = definitions, calls, members
         self.closed, self.meanings, self.used_words = closed, meanings, set()
-        self.there = {}
+        self.there, self.known = {}, {}
 
     def lines_of(self, definition, sheet):
         if definition.name in self.closed:
             return definition.signature()
         return drop_cases(definition, sheet.without)
 
+    def uses(self, definition, sheet):
+        """What the lines of a definition that stand on the sheet name."""
+        key = (definition.path, definition.name, sheet.name)
+        if key not in self.known:
+            imported = self.definitions.imported[definition.path]
+            self.known[key] = self.definitions.used(self.lines_of(definition, sheet), imported, definition.path)
+        return self.known[key]
+
     def roots(self, name):
         """What the contract of a call, or a ghost member, names."""
         call = self.calls.get(name) or self.members[name]
         return self.definitions.used(call.clauses() if name in self.calls else call.lines, call.imported)
 
-    def make(self, sheet, sheets):
+    def make(self, sheet):
+        """The text of a sheet, and how many lines its definitions have."""
         before = set()
         for other in sheet.after:
             if other not in self.there:
                 wrong(f'{LISTS}: {sheet.name} comes after {other}, which does not stand before it')
             before |= self.there.get(other, set())
-        order, done, elsewhere = [], set(), set()
-
-        def visit(meaning):
-            if isinstance(meaning, tuple):
-                elsewhere.add(meaning)
-                return
-            key = (meaning.path, meaning.name)
-            if key in done or key in before:
-                return
-            done.add(key)
-            for other in self.definitions.used(self.lines_of(meaning, sheet), self.definitions.imported[meaning.path],
-                                               meaning.path):
-                visit(other)
-            order.append(meaning)
-
-        roots = []
+        stack = []
         for name in sheet.members + sheet.calls:
-            if name not in self.calls and name not in self.members:
+            if name in self.calls or name in self.members:
+                stack += self.roots(name)
+            else:
                 wrong(f'{LISTS}: {sheet.name}: no {name} in the crates')
-                continue
-            for meaning in self.roots(name):
-                if meaning not in roots:
-                    roots.append(meaning)
-        closure, stack = [], list(roots)
+        needed, elsewhere = set(), set()
         while stack:
             meaning = stack.pop()
-            if meaning in closure or isinstance(meaning, tuple) or (meaning.path, meaning.name) in before:
-                continue
-            closure.append(meaning)
-            stack += self.definitions.used(self.lines_of(meaning, sheet), self.definitions.imported[meaning.path], meaning.path)
-        places = list(self.definitions.all)
-        closure.sort(key=lambda d: (rank(d.path), places.index((d.path, d.name))))
-        for meaning in closure:
-            visit(meaning)
-        for meaning in roots:
-            visit(meaning)
-        self.there[sheet.name] = before | done
-        return self.print(sheet, order, elsewhere)
+            if isinstance(meaning, tuple):
+                elsewhere.add(meaning)
+            elif meaning not in needed and (meaning.path, meaning.name) not in before:
+                needed.add(meaning)
+                stack += self.uses(meaning, sheet)
+        order = []
 
-    def print(self, sheet, order, elsewhere):
+        def place(definition):
+            """Puts a definition after those that it uses."""
+            if definition in needed and definition not in placed:
+                placed.add(definition)
+                for other in self.uses(definition, sheet):
+                    place(other)
+                order.append(definition)
+
+        placed, places = set(), {definition: at for at, definition in enumerate(self.definitions.all.values())}
+        for definition in sorted(needed, key=lambda d: (rank(d.path), places[d])):
+            place(definition)
+        self.there[sheet.name] = before | {(d.path, d.name) for d in order}
+        return self.text(sheet, order, elsewhere)
+
+    def text(self, sheet, order, elsewhere):
         count = sum(len(self.lines_of(d, sheet)) for d in order)
         out = [f'{" ".join(sheet.title)}', '',
                f'{len(sheet.calls)} calls, {len(order)} definitions of {count} lines.',
@@ -476,7 +479,6 @@ def main(arguments):
     if len(arguments) > 1 or any(a.startswith('-') for a in arguments):
         print(__doc__.strip(), file=sys.stderr)
         return 2
-    import os
     os.chdir(arguments[0] if arguments else Path(__file__).resolve().parents[2])
     definitions = Definitions()
     calls, members = read_calls()
@@ -493,7 +495,7 @@ def main(arguments):
     maker = Maker(definitions, calls, members, closed, meanings)
     made, counts = {}, {}
     for sheet in sheets:
-        made[sheet.name], counts[sheet.name] = maker.make(sheet, sheets)
+        made[sheet.name], counts[sheet.name] = maker.make(sheet)
     for word in meanings:
         if word not in maker.used_words:
             wrong(f'{LISTS}: no sheet uses the word {word}')
