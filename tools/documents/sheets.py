@@ -36,12 +36,14 @@ def wrong(message):
 HEAD = re.compile(r'(?:(?:abbrev|unfoldable|opaque|pub|data|record) +)*([A-Za-z_][\w\'-]*) *[:({]')
 # `Rattle.x.y.{a, b as c}`, perhaps over several lines, or `Rattle.x.y as z`
 USE = re.compile(r'\buse (Rattle\.[\w.]+?)(?:\.\{([^}]*)\}| as (\w+))')
+# the names of arguments and of fields
+BOUND = re.compile(r"(?:[({]|\n +(?:pub )?)([\w' ]+) :")
 WORD = re.compile(r"(?<![\w.◌])([A-Za-z_][\w'-]*)(?:\.([A-Za-z_][\w'-]*))?")
 
 
 class Definition:
-    def __init__(self, path, name):
-        self.path, self.name, self.comment, self.lines = path, name, [], []
+    def __init__(self, path, name, at):
+        self.path, self.name, self.at, self.comment, self.lines = path, name, at, [], []
 
     def signature(self):
         """The lines up to the first equation, field or case."""
@@ -81,9 +83,9 @@ class Definitions:
         text = Path(path).read_text()
         self.imported[path] = imports(text)
         lines = text.split('\n')
-        self.title[path] = lines[0].strip('- ') if lines[0].startswith('--') else ''
+        self.title[path] = [line for at, line in enumerate(lines) if all(before.startswith('--') for before in lines[:at + 1])]
         comment, now, pending = [], None, []
-        for line in lines:
+        for at, line in enumerate(lines):
             if line.startswith('-- ----') or re.match(r'(pub )?use\b', line) or not line.strip():
                 comment, now, pending = [], None, []
             elif line.startswith('--'):
@@ -95,7 +97,7 @@ class Definitions:
             else:
                 head = not line.startswith(' ') and HEAD.match(line)
                 if head and (path, head.group(1)) not in self.all:
-                    now = Definition(path, head.group(1))
+                    now = Definition(path, head.group(1), at)
                     now.comment, now.lines = comment, pending
                     self.all[path, now.name] = now
                     comment, pending = [], []
@@ -123,8 +125,13 @@ class Definitions:
 
     def used(self, lines, imported, path=None):
         """What the words of some lines mean."""
+        text = re.sub(r'"[^"]*"', '', '\n'.join(lines))
+        bound = set(' '.join(BOUND.findall(text)).split())
         found = []
-        for word, dotted in WORD.findall(re.sub(r'"[^"]*"', '', '\n'.join(lines))):
+        for word, dotted in WORD.findall(text):
+            # A variable or a field may have the name of a case, as `field`.
+            if word in bound and (path, word) in self.inside:
+                continue
             meaning = self.find(word, dotted, imported, path)
             if meaning is not None and meaning not in found:
                 found.append(meaning)
@@ -229,7 +236,7 @@ class Sheet:
 
 
 def read_lists():
-    sheets, rest, meanings, closed, kind, now = [], {}, {}, {}, None, None
+    sheets, rest, meanings, closed, files, kind, now = [], {}, {}, {}, [], None, None
     for number, line in enumerate(Path(LISTS).read_text().split('\n'), 1):
         line = line.rstrip()
         if not line or line.startswith('#'):
@@ -259,10 +266,12 @@ def read_lists():
                 rest[name] = now
         elif kind == 'relations':
             closed.update((name, True) for name in line.split())
+        elif kind == 'order':
+            files += line.split()
         elif kind == 'words':
             of, word, meaning = [part.strip() for part in line.split('|')]
             meanings[word.split()[0]] = (word, of, meaning)
-    return sheets, rest, closed, meanings
+    return sheets, rest, closed, meanings, files
 
 
 # ---- a sheet
@@ -280,10 +289,10 @@ def drop_cases(definition, without):
 
 
 class Maker:
-    def __init__(self, definitions, calls, members, closed, meanings):
+    def __init__(self, definitions, calls, members, closed, meanings, files):
         self.definitions, self.calls, self.members = definitions, calls, members
         self.closed, self.meanings, self.used_words = closed, meanings, set()
-        self.there, self.known = {}, {}
+        self.there, self.known, self.files = {}, {}, files
 
     def lines_of(self, definition, sheet):
         if definition.name in self.closed:
@@ -297,6 +306,13 @@ class Maker:
             imported = self.definitions.imported[definition.path]
             self.known[key] = self.definitions.used(self.lines_of(definition, sheet), imported, definition.path)
         return self.known[key]
+
+    def rank(self, definition):
+        """Where a definition stands: by the order of the files, and then by its place in its file."""
+        known = [at for at, path in enumerate(self.files) if definition.path.startswith(f'crates/{path}')]
+        if not known:
+            wrong(f'{LISTS}: the order has no place for {definition.path}')
+        return known[:1], definition.path, definition.at
 
     def roots(self, name):
         """What the contract of a call, or a ghost member, names."""
@@ -334,8 +350,8 @@ class Maker:
                     place(other)
                 order.append(definition)
 
-        placed, places = set(), {definition: at for at, definition in enumerate(self.definitions.all.values())}
-        for definition in sorted(needed, key=lambda d: (rank(d.path), places[d])):
+        placed = set()
+        for definition in sorted(needed, key=self.rank):
             place(definition)
         self.there[sheet.name] = before | {(d.path, d.name) for d in order}
         return self.text(sheet, order, elsewhere)
@@ -362,14 +378,15 @@ class Maker:
                 out += ['', f'---- {name}   ({member.path})']
                 out += [re.sub('^    ', '', line) for line in without_invariants(member.lines)]
         out += ['', '', '======== The definitions']
-        last = None
+        last, headed = None, set()
         for definition in order:
             if definition.path != last:
                 last = definition.path
-                out += ['', '', f'---- {last}: {self.definitions.title[last]}']
+                out += ['', '', f'---- {last}'] + [line for line in self.definitions.title[last] if last not in headed]
+                headed.add(last)
             out += [''] + definition.comment
             if definition.name in self.closed:
-                out.append('-- [a relation between a state and its text: how it is stored need not be read]')
+                out.append('-- [given by its type alone: how a state is stored need not be read]')
             out += [plain(line) for line in self.lines_of(definition, sheet)]
         out += ['', '', '======== The words of the toolchain', '']
         rows, types = [], []
@@ -402,14 +419,6 @@ def without_invariants(lines):
 def plain(line):
     """Without the words that only say where a proof may look inside."""
     return line if line.startswith(' ') else re.sub(r'^((abbrev|unfoldable|opaque|pub) +)*', '', line)
-
-
-def rank(path):
-    order = ['octets/specs/Bytes', 'octets/specs/Masked', 'chacha', 'poly1305', 'octets/specs/Bits', 'octets/specs/Poly',
-             'aes', 'gf128', 'keywrap/specs/Wrapping', 'keywrap/specs/Padded', 'aead/specs/Suites', 'aead/specs/Sealing', 'octets/specs/Numbers',
-             'octets/specs/Refusals', 'octets', 'keywrap', 'aead/specs/Ciphers', 'aead/specs/AnyCiphers', 'aead', 'vectors/specs/Lines',
-             'vectors/specs/Suites', 'vectors/specs/Cuts', 'vectors/specs/Grammar', 'vectors', 'capi', 'command']
-    return next(at for at, part in enumerate(order) if path.startswith('crates/' + part))
 
 
 # ---- comparing
@@ -482,7 +491,7 @@ def main(arguments):
     os.chdir(arguments[0] if arguments else Path(__file__).resolve().parents[2])
     definitions = Definitions()
     calls, members = read_calls()
-    sheets, rest, closed, meanings = read_lists()
+    sheets, rest, closed, meanings, files = read_lists()
     listed = {name for sheet in sheets for name in sheet.calls}
     for name, call in calls.items():
         if call.is_public and name not in listed and name not in rest:
@@ -492,7 +501,7 @@ def main(arguments):
             wrong(f'{LISTS}: no function {name} in the crates')
         elif name in listed and name in rest:
             wrong(f'{LISTS}: {name} is in a sheet, and not needed')
-    maker = Maker(definitions, calls, members, closed, meanings)
+    maker = Maker(definitions, calls, members, closed, meanings, files)
     made, counts = {}, {}
     for sheet in sheets:
         made[sheet.name], counts[sheet.name] = maker.make(sheet)
