@@ -73,6 +73,13 @@ def path_of(module):
     return 'crates/' + '/'.join(part[1:]) + '.antt'
 
 
+def origin(module):
+    """What a reader looks for: a file of definitions, or a type of the code."""
+    if '.declared.' not in module:
+        return path_of(module)
+    return f'the type {module.split(".")[1]}::{module.replace(".TheVariants", "").split(".")[-1]}'
+
+
 class Definitions:
     def __init__(self):
         self.all, self.imported, self.title, self.inside = {}, {}, {}, {}
@@ -175,6 +182,8 @@ def read_file(crate, path, exported, calls, members):
     lines = text.split('\n')
     block = None
     for at, line in enumerate(lines):
+        if re.match(r'(pub(\([^)]*\))? )?(unsafe )?(impl|trait)\b', line) and not BLOCK.match(line):
+            wrong(f'{path}:{at + 1}: this script does not read such a line')
         if BLOCK.match(line):
             kind, of, name = BLOCK.match(line).groups()
             if of:
@@ -356,6 +365,18 @@ class Maker:
         self.there[sheet.name] = before | {(d.path, d.name) for d in order}
         return self.text(sheet, order, elsewhere)
 
+    def other_names(self, sheet, order):
+        """A line for each word that a file of the sheet takes from another under a name of its own."""
+        parts = [(d.path, self.lines_of(d, sheet), self.definitions.imported[d.path]) for d in order]
+        parts += [(c.path, c.lines, c.imported) for c in map(self.calls.get, sheet.calls) if c]
+        found = {}
+        for path, lines, imported in parts:
+            for word in {word for word, _ in WORD.findall('\n'.join(lines))} & set(imported):
+                module, name = imported[word]
+                if name != word and '.std.' not in module:
+                    found.setdefault((word, f'{name} of ' * bool(name) + origin(module)), set()).add(path)
+        return [f'{word} is {meaning}, in {", ".join(sorted(paths))}' for (word, meaning), paths in sorted(found.items())]
+
     def text(self, sheet, order, elsewhere):
         count = sum(len(self.lines_of(d, sheet)) for d in order)
         out = [f'{" ".join(sheet.title)}', '',
@@ -388,6 +409,9 @@ class Maker:
             if definition.name in self.closed:
                 out.append('-- [given by its type alone: how a state is stored need not be read]')
             out += [plain(line) for line in self.lines_of(definition, sheet)]
+        names = self.other_names(sheet, order)
+        if names:
+            out += ['', '', '======== Other names', ''] + names
         out += ['', '', '======== The words of the toolchain', '']
         rows, types = [], []
         for module, name in sorted(elsewhere, key=lambda e: e[1]):
