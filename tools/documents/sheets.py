@@ -110,7 +110,7 @@ class Definitions:
                     comment, pending = [], []
                 if now:
                     now.lines.append(line)
-                    case = now.lines and re.match(r'  (?:pub )?◌?([A-Za-z_]\w*)◌? :', line)
+                    case = re.match(r'  (?:pub )?◌?([A-Za-z_]\w*)◌? :', line)
                     if case and any(re.match(r'(pub )?data ', head) for head in now.lines):
                         self.inside[path, case.group(1)] = now
 
@@ -240,12 +240,12 @@ def is_clause(lines, at):
 
 class Sheet:
     def __init__(self, name):
-        self.name, self.title, self.after, self.calls, self.members = name, [], [], [], []
-        self.without, self.closed, self.notes = [], [], []
+        self.name, self.title, self.notes = name, '', []
+        self.after, self.calls, self.members, self.without = [], [], [], []
 
 
 def read_lists():
-    sheets, rest, meanings, closed, files, kind, now = [], {}, {}, {}, [], None, None
+    sheets, rest, meanings, closed, files, kind, now = [], {}, {}, set(), [], None, None
     for number, line in enumerate(Path(LISTS).read_text().split('\n'), 1):
         line = line.rstrip()
         if not line or line.startswith('#'):
@@ -260,8 +260,10 @@ def read_lists():
             continue
         if kind == 'sheet':
             key, _, value = line.partition(': ')
-            if key in ('title', 'note'):
-                (now.title if key == 'title' else now.notes).append(value)
+            if key == 'title':
+                now.title = value
+            elif key == 'note':
+                now.notes.append(value)
             elif key in ('after', 'calls', 'without'):
                 getattr(now, key).extend(value.split())
             elif key == 'members':
@@ -274,7 +276,7 @@ def read_lists():
                     wrong(f'{LISTS}:{number}: {name} twice')
                 rest[name] = now
         elif kind == 'relations':
-            closed.update((name, True) for name in line.split())
+            closed.update(line.split())
         elif kind == 'order':
             files += line.split()
         elif kind == 'words':
@@ -378,10 +380,10 @@ class Maker:
         return [f'{word} is {meaning}, in {", ".join(sorted(paths))}' for (word, meaning), paths in sorted(found.items())]
 
     def text(self, sheet, order, elsewhere):
+        """The sheet, and how many lines its definitions have. `elsewhere` has the words that no file of specs/ defines."""
         count = sum(len(self.lines_of(d, sheet)) for d in order)
-        out = [f'{" ".join(sheet.title)}', '',
-               f'{len(sheet.calls)} calls, {len(order)} definitions of {count} lines.',
-               f'Written by tools/documents/sheets.py from crates/*/src and crates/*/specs; docs/PROOFS.md says how to read it.']
+        out = [sheet.title, '', f'{len(sheet.calls)} calls, {len(order)} definitions of {count} lines.',
+               'Written by tools/documents/sheets.py from crates/*/src and crates/*/specs; docs/PROOFS.md says how to read it.']
         if sheet.after:
             out.append(f'Goes on from {", ".join(sheet.after)}: what stands there is not repeated.')
         out += sheet.notes
@@ -413,20 +415,18 @@ class Maker:
         if names:
             out += ['', '', '======== Other names', ''] + names
         out += ['', '', '======== The words of the toolchain', '']
-        rows, types = [], []
-        for module, name in sorted(elsewhere, key=lambda e: e[1]):
+        types = set()
+        for module, name in sorted(elsewhere, key=lambda word: word[1]):
             if '.declared.' in module and not module.startswith('Rattle.std.'):
-                types.append((module, name))
+                types.add(origin(module).replace('the type ', ''))
             elif name in self.meanings:
-                rows.append(self.meanings[name])
+                word, _, meaning = self.meanings[name]
+                out.append(f'{word}: {meaning}')
                 self.used_words.add(name)
             elif name not in LOGIC and re.match(r'[A-Za-z]', name):
                 wrong(f'{LISTS}: the sheet {sheet.name} uses {name} of {module}, which has no line among the words')
-        out += [f'{word}: {meaning}' for word, of, meaning in rows]
-        types = sorted({(m.split('.declared.')[1].replace('.TheVariants', ''), m.split('.')[1]) for m, _ in types
-                        if '.declared.' in m})
         if types:
-            out += ['', 'Types of the code: ' + ', '.join(sorted({f'{crate}::{name.split(".")[-1]}' for name, crate in types})) + '.']
+            out += ['', f'Types of the code: {", ".join(sorted(types))}.']
         return '\n'.join(out) + '\n', count
 
 
