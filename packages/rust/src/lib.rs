@@ -87,5 +87,6 @@ pub const WRAP_BYTES: usize = 8;
 pub const NONCE_BYTES: usize = 12;
 
 #[cfg(all(doctest, feature = "alloc"))]
+#[doc = include_str!("../README.md")]
 #[doc = include_str!("../tests/compile_fail.md")]
 struct TestedPages;
