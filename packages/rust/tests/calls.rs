@@ -26,10 +26,18 @@ fn all_forms_agree() {
             let text = text_of(length);
             let whole = key.seal_to_vec(&NONCE, &text, aad).unwrap();
             assert_eq!(key.open_to_vec(&NONCE, &whole, aad).as_ref(), Ok(&text));
-            let (mut sealed, mut opened) = (vec![BEFORE; length + TAG_BYTES], vec![BEFORE; length]);
-            key.seal(&NONCE, &text, &mut sealed, aad).unwrap();
-            key.open(&NONCE, &whole, &mut opened, aad).unwrap();
-            assert_eq!((&sealed, &opened), (&whole, &text));
+            let (mut sealed, mut opened) = (vec![BEFORE; length + TAG_BYTES + 1], vec![BEFORE; length + TAG_BYTES]);
+            for wrong in [length, length + TAG_BYTES - 1, length + TAG_BYTES + 1] {
+                assert_eq!(key.seal(&NONCE, &text, &mut sealed[..wrong], aad), Err(Error::OutputLength));
+            }
+            for wrong in [length + 1, length + TAG_BYTES] {
+                assert_eq!(key.open(&NONCE, &whole, &mut opened[..wrong], aad), Err(Error::OutputLength));
+            }
+            assert!([&sealed[..], &opened].concat().iter().all(|byte| *byte == BEFORE));
+            key.seal(&NONCE, &text, &mut sealed[..length + TAG_BYTES], aad).unwrap();
+            key.open(&NONCE, &whole, &mut opened[..length], aad).unwrap();
+            assert_eq!(sealed, [&whole[..], &[BEFORE]].concat());
+            assert_eq!(opened, [&text[..], &[BEFORE; TAG_BYTES]].concat());
             let mut buffer = text.clone();
             let tag = key.seal_in_place(&NONCE, &mut buffer, aad).unwrap();
             assert_eq!((&buffer[..], &tag[..]), whole.split_at(length));
@@ -86,78 +94,52 @@ fn what_is_not_a_sealing_does_not_open() {
 }
 
 #[test]
-fn an_output_of_another_length_is_not_written() {
-    for key in Suite::ALL.map(key_of) {
-        for length in LENGTHS {
-            let (text, mut output) = (text_of(length), vec![BEFORE; length + TAG_BYTES + 1]);
-            let sealed = key.seal_to_vec(&NONCE, &text, AAD).unwrap();
-            for wrong in [length, sealed.len() - 1, sealed.len() + 1] {
-                assert_eq!(key.seal(&NONCE, &text, &mut output[..wrong], AAD), Err(Error::OutputLength));
-            }
-            for wrong in [length + 1, sealed.len()] {
-                assert_eq!(key.open(&NONCE, &sealed, &mut output[..wrong], AAD), Err(Error::OutputLength));
-            }
-            assert_eq!(output, vec![BEFORE; length + TAG_BYTES + 1]);
-        }
-    }
-}
-
-#[test]
 fn wrapping() {
     for key in [&[3; 16][..], &[3; 24], &[3; 32]].map(WrappingKey) {
-        for length in [16, 24, 40, 1000] {
-            let text = text_of(length);
-            let mut wrapped = wrap_to_vec(key, &text).unwrap();
-            assert_eq!(unwrap_to_vec(key, &wrapped).as_ref(), Ok(&text));
-            let mut output = vec![BEFORE; length + 9];
-            for wrong in [length, length + 7, length + 9] {
-                assert_eq!(wrap(key, &text, &mut output[..wrong]), Err(Error::OutputLength));
+        for (length, is_padded) in (1..18).map(|length| (length, true)).chain([(16, false), (24, false), (1000, false)])
+        {
+            let (text, room) = (text_of(length), length.next_multiple_of(8));
+            let seal = |output: &mut [u8]| match is_padded {
+                true => wrap_padded(key, &text, output),
+                false => wrap(key, &text, output),
+            };
+            let open = |wrapped: &[u8], output: &mut [u8]| match is_padded {
+                true => unwrap_padded(key, wrapped, output).map(|text| text.len()),
+                false => unwrap(key, wrapped, output).map(|()| length),
+            };
+            let mut wrapped = vec![BEFORE; room + 9];
+            for wrong in [room, room + 7, room + 9] {
+                assert_eq!(seal(&mut wrapped[..wrong]), Err(Error::OutputLength));
             }
-            for wrong in [length - 1, length + 1] {
-                assert_eq!(unwrap(key, &wrapped, &mut output[..wrong]), Err(Error::OutputLength));
+            assert_eq!(wrapped, vec![BEFORE; room + 9]);
+            assert_eq!((seal(&mut wrapped[..room + 8]), wrapped.pop()), (Ok(()), Some(BEFORE)));
+            let (made, opened) = match is_padded {
+                true => (wrap_padded_to_vec(key, &text), unwrap_padded_to_vec(key, &wrapped)),
+                false => (wrap_to_vec(key, &text), unwrap_to_vec(key, &wrapped)),
+            };
+            assert_eq!((made.as_ref(), opened.as_ref()), (Ok(&wrapped), Ok(&text)));
+
+            let mut output = vec![BEFORE; room + 1];
+            for wrong in [room - 1, room + 1] {
+                assert_eq!(open(&wrapped, &mut output[..wrong]), Err(Error::OutputLength));
             }
-            assert_eq!(output, vec![BEFORE; length + 9]);
-            wrapped[length / 2] ^= 1;
-            assert_eq!(unwrap(key, &wrapped, &mut output[..length]), Err(Error::WrapIntegrity));
-            assert_eq!(output, [vec![0; length], vec![BEFORE; 9]].concat());
+            assert_eq!(output, vec![BEFORE; room + 1]);
+            assert_eq!(open(&wrapped, &mut output[..room]), Ok(length));
+            assert_eq!(output, [text, vec![0; room - length], vec![BEFORE]].concat());
+            wrapped[3] ^= 1;
+            assert_eq!(open(&wrapped, &mut output[..room]), Err(Error::WrapIntegrity));
+            assert_eq!(output, [vec![0; room], vec![BEFORE]].concat());
         }
-        for (text_length, wrapped_length) in [(0, 0), (8, 16), (15, 23), (17, 25)] {
-            assert_eq!(wrap_to_vec(key, &text_of(text_length)), Err(Error::WrapLength));
-            assert_eq!(unwrap_to_vec(key, &text_of(wrapped_length)), Err(Error::WrapLength));
-        }
-    }
-    for call in [wrap_to_vec, unwrap_to_vec, wrap_padded_to_vec, unwrap_padded_to_vec] {
-        assert_eq!(call(WrappingKey(&[3; 15]), &[0; 24]), Err(Error::KeyLength));
+        let refused = |call: fn(WrappingKey<'_>, &[u8]) -> Result<Vec<u8>, Error>, lengths: &[usize]| {
+            lengths.iter().for_each(|length| assert_eq!(call(key, &text_of(*length)), Err(Error::WrapLength)));
+            assert_eq!(call(WrappingKey(&[3; 15]), &[0; 24]), Err(Error::KeyLength));
+        };
+        refused(wrap_to_vec, &[0, 8, 15, 17]);
+        refused(unwrap_to_vec, &[0, 8, 16, 23, 25]);
+        refused(wrap_padded_to_vec, &[0]);
+        refused(unwrap_padded_to_vec, &[0, 8, 15, 17]);
     }
     assert_eq!(format!("{:?}", WrappingKey(&[3; 16])), "WrappingKey");
-}
-
-#[test]
-fn wrapping_with_padding() {
-    for key in [&[3; 16][..], &[3; 24], &[3; 32]].map(WrappingKey) {
-        for length in (1..18).chain([1000, 1001]) {
-            let (text, room) = (text_of(length), length.next_multiple_of(8));
-            let mut wrapped = wrap_padded_to_vec(key, &text).unwrap();
-            assert_eq!(unwrap_padded_to_vec(key, &wrapped).as_ref(), Ok(&text));
-            let mut output = vec![BEFORE; room + 9];
-            for wrong in [room, room + 7, room + 9] {
-                assert_eq!(wrap_padded(key, &text, &mut output[..wrong]), Err(Error::OutputLength));
-            }
-            for wrong in [room - 1, room + 1] {
-                assert_eq!(unwrap_padded(key, &wrapped, &mut output[..wrong]), Err(Error::OutputLength));
-            }
-            assert_eq!(output, vec![BEFORE; room + 9]);
-            assert_eq!(unwrap_padded(key, &wrapped, &mut output[..room]), Ok(&text[..]));
-            assert_eq!(output, [text, vec![0; room - length], vec![BEFORE; 9]].concat());
-            wrapped[3] ^= 1;
-            assert_eq!(unwrap_padded(key, &wrapped, &mut output[..room]), Err(Error::WrapIntegrity));
-            assert_eq!(output, [vec![0; room], vec![BEFORE; 9]].concat());
-        }
-        assert_eq!(wrap_padded_to_vec(key, &[]), Err(Error::WrapLength));
-        for length in [0, 8, 15, 17] {
-            assert_eq!(unwrap_padded_to_vec(key, &text_of(length)), Err(Error::WrapLength));
-        }
-    }
 }
 
 unsafe extern "C" {
