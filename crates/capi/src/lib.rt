@@ -9,9 +9,9 @@
 //!
 //! A slice crosses as a pointer and a length, and a suite as its number. The status is 0, the number of a fault, 14 if the call
 //! takes no suite with the number, 15 if nothing is begun or kept in the struct, or 16 if the output is not as long as the
-//! result. The header `bindings/include/aeadkit.h` is the manual for C.
+//! result. The header `packages/c/include/aeadkit.h` is the manual for C.
 //!
-//! A text is sealed into other memory, with the tag at the end, and opened from there. From `bindings/c/message.c`:
+//! A text is sealed into other memory, with the tag at the end, and opened from there. From `packages/c/examples/message.c`:
 //! ```c
 //! if (!done("seal", aeadkit_seal(SUITE, key, KEY, nonce, sizeof nonce, (const uint8_t *)aad, strlen(aad),
 //!                                (const uint8_t *)text, TEXT, sealed, SEALED))) return 1;

@@ -1,4 +1,4 @@
 //! The version of the repository.
 
-/// The version. The packages of `bindings/` take it from this line.
+/// The version. The packages of `packages/` take it from this line.
 pub const VERSION: &str = "3.0.0";
