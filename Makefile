@@ -56,7 +56,7 @@ dist:
 # What a test needs and PREFIX lacks.
 $(PREFIX)/lib/libaeadkit.a:
 	tools/build/lib.sh $(LIBRARY) "$(PREFIX)"
-$(PREFIX)/lib/aeadkit.wasm:
+$(PREFIX)/share/aeadkit/javascript/aeadkit.wasm:
 	tools/build/lib.sh $(WASM) "$(PREFIX)"
 $(PREFIX)/bin/aeadkit:
 	tools/build/lib.sh program "$(PREFIX)"
@@ -71,8 +71,8 @@ check-rust: $(PREFIX)/lib/libaeadkit.a
 	cd packages/rust && AEADKIT_PREFIX="$(PREFIX)" CARGO_TARGET_DIR="$(BUILD)/cargo" cargo build --offline --no-default-features
 check-python: $(PREFIX)/lib/libaeadkit.a
 	cd packages/python && AEADKIT_PREFIX="$(PREFIX)" PYTHONDONTWRITEBYTECODE=1 python3 -m unittest discover -s tests
-check-javascript: $(PREFIX)/lib/aeadkit.wasm
-	cd packages/javascript && AEADKIT_PREFIX="$(PREFIX)" node --test
+check-javascript: $(PREFIX)/share/aeadkit/javascript/aeadkit.wasm
+	cd packages/javascript && AEADKIT_PREFIX="$(PREFIX)" npm test
 check-program: $(PREFIX)/bin/aeadkit
 	program/tests/check.sh "$(PREFIX)/bin/aeadkit"
 
