@@ -1,0 +1,83 @@
+# Builds, installs, tests and packs aeadkit.
+#
+#   make library              proves and builds the library for C: for any x86-64 processor, and for AVX2
+#   make wasm                 proves and builds the WebAssembly module for JavaScript
+#   make install PREFIX=DIR   the library and the program, with the header, pages, completions and documents
+#   make check                every test below
+#   make check-NAME           one of documents, c, rust, python, javascript, program
+#   make check STANDIN=1      the packages over an unproved stand-in of the library, without the toolchain, in a minute
+#   make dist                 a tarball for C, a crate, a wheel, an npm package and SHA256SUMS, in BUILD/dist
+#   make bench                the speed of the library beside other libraries on this machine; WORDS="--kept 5"
+#   make constant-time        branches and addresses that depend on secrets; WORDS=--short
+#
+# PREFIX   what is built and tested; BUILD/prefix without it. A test builds what is not in PREFIX yet
+# BUILD    the work: the copies that are proved, of 3 GB each. It stands beside the repository, since the gate, rt ci, lets
+#          no link and no other .rt file stand below the repository
+# BUILDS   the builds of the library: default avx2
+# PROGRAM  the build of the program, default or avx2; without it the one that this machine runs
+BUILD ?= $(CURDIR)-build
+PREFIX ?= $(BUILD)/prefix
+BUILDS ?= default avx2
+WORDS ?=
+LIBRARY := library
+WASM := wasm
+
+override BUILD := $(abspath $(BUILD))
+override PREFIX := $(abspath $(PREFIX))
+export BUILD BUILDS PROGRAM
+
+packages := check-c check-rust check-python check-javascript
+.PHONY: help library wasm program pages install check check-documents check-program dist bench constant-time $(packages)
+help:
+	@sed -n '3,18s/^# \{0,1\}//p' Makefile
+
+ifneq ($(STANDIN),)
+check $(packages):
+	@room=$$(mktemp -d) && trap 'rm -rf "$$room"' EXIT && \
+	$(MAKE) --no-print-directory $(if $(filter check,$@),check-documents $(packages),$@) \
+	    STANDIN= BUILD="$$room" PREFIX="$$room/prefix" LIBRARY=standin WASM=standin-wasm
+	@echo "ok: $@, over the stand-in$(if $(filter check,$@), (the program has none: make check-program))"
+library wasm program install dist bench constant-time check-program:
+	@echo "$@ takes no stand-in" >&2; exit 2
+else
+
+library:
+	tools/build/lib.sh library "$(PREFIX)"
+wasm:
+	tools/build/lib.sh wasm "$(PREFIX)"
+program:
+	tools/build/lib.sh program "$(PREFIX)"
+pages: $(PREFIX)/bin/aeadkit
+	program/pages.sh "$(PREFIX)/bin/aeadkit" "$(PREFIX)/share"
+install: library program pages
+dist:
+	tools/build/lib.sh dist
+
+# What a test needs and PREFIX lacks.
+$(PREFIX)/lib/libaeadkit.a:
+	tools/build/lib.sh $(LIBRARY) "$(PREFIX)"
+$(PREFIX)/share/aeadkit/javascript/aeadkit.wasm:
+	tools/build/lib.sh $(WASM) "$(PREFIX)"
+$(PREFIX)/bin/aeadkit:
+	tools/build/lib.sh program "$(PREFIX)"
+
+check: check-documents $(packages) check-program
+check-documents:
+	python3 tools/documents.py check
+check-c: $(PREFIX)/lib/libaeadkit.a
+	$(MAKE) -C packages/c check PREFIX="$(PREFIX)" OUT="$(BUILD)/c"
+check-rust: $(PREFIX)/lib/libaeadkit.a
+	cd packages/rust && AEADKIT_PREFIX="$(PREFIX)" CARGO_TARGET_DIR="$(BUILD)/cargo" cargo test --offline
+	cd packages/rust && AEADKIT_PREFIX="$(PREFIX)" CARGO_TARGET_DIR="$(BUILD)/cargo" cargo build --offline --no-default-features
+check-python: $(PREFIX)/lib/libaeadkit.a
+	cd packages/python && AEADKIT_PREFIX="$(PREFIX)" PYTHONDONTWRITEBYTECODE=1 python3 -m unittest discover -s tests
+check-javascript: $(PREFIX)/share/aeadkit/javascript/aeadkit.wasm
+	cd packages/javascript && AEADKIT_PREFIX="$(PREFIX)" npm test
+check-program: $(PREFIX)/bin/aeadkit
+	program/tests/check.sh "$(PREFIX)/bin/aeadkit"
+
+bench: $(PREFIX)/lib/libaeadkit.a
+	bench/bench.sh "$(PREFIX)" $(WORDS)
+constant-time: $(PREFIX)/lib/libaeadkit.a
+	tools/constant-time/constant-time.sh $(WORDS) "$(PREFIX)"
+endif
