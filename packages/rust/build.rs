@@ -22,7 +22,7 @@ fn main() {
     }
     let archive = lib.join("libaeadkit.a");
     if !archive.exists() {
-        println!("cargo::error={} is not there: set AEADKIT_PREFIX to a folder with lib/libaeadkit.a", archive.display());
+        println!("cargo::error=no {}: set AEADKIT_PREFIX to a folder with lib/libaeadkit.a", archive.display());
         return;
     }
     println!("cargo::rerun-if-changed={}", archive.display());
