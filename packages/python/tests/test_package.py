@@ -67,16 +67,13 @@ class Documents(unittest.TestCase):
 class Library(unittest.TestCase):
     def setUp(self):
         """A copy of the package, without a library."""
-        self.folder = pathlib.Path(self.enterContext(tempfile.TemporaryDirectory()))
+        folder = tempfile.TemporaryDirectory()
+        self.addCleanup(folder.cleanup)
+        self.folder = pathlib.Path(folder.name)
         (self.folder / "aeadkit/lib").mkdir(parents=True)
         for file in pathlib.Path(aeadkit.__file__).parent.glob("*.py"):
             shutil.copy(file, self.folder / "aeadkit")
         self.file = self.folder / "aeadkit/lib/libaeadkit.so"
-
-    if sys.version_info < (3, 11):
-        def enterContext(self, manager):
-            self.addCleanup(manager.__exit__, None, None, None)
-            return manager.__enter__()
 
     def build(self, version=30000, **sizes):
         source = f"unsigned aeadkit_version(void) {{ return {version}; }}\n" if version else "int nothing;\n"
