@@ -66,11 +66,37 @@ for compiler in cc gcc clang; do
             || { echo "$compiler says nothing of a status that is ignored:" >&2; cat "$room/log" >&2; exit 1; }
     fi
 done
-# It declares what the library exports, and its only macros are the guard, the version and the attribute.
+# It declares what the library exports and one function of its own, and each of its macros has the prefix.
+if sed -n 's/^ *# *define *//p' "$prefix/include/aeadkit.h" | grep -v '^AEADKIT_' >&2; then exit 1; fi
 grep -oE 'aeadkit_[a-z_]+\(' "$prefix/include/aeadkit.h" | tr -d '(' | sort -u > "$room/declared"
-grep -oE 'aeadkit_[a-z_]+' exports.map | sort -u | cmp - "$room/declared"
-macros=$(sed -n 's/^# *define *\([A-Za-z_]*\).*/\1/p' "$prefix/include/aeadkit.h" | sort -u | tr '\n' ' ')
-[ "$macros" = "AEADKIT_H AEADKIT_STATUS AEADKIT_VERSION " ] || { echo "the header defines $macros" >&2; exit 1; }
+{ grep -oE 'aeadkit_[a-z_]+' exports.map; echo aeadkit_status_string; } | sort -u | cmp - "$room/declared"
+# A compiler that knows the attribute `access` finds a length past the memory's end, and NULL where it is never allowed.
+cat > "$room/wrong.c" <<'END'
+#include "aeadkit.h"
+uint32_t wrong(struct aeadkit_key *kept);
+uint32_t wrong(struct aeadkit_key *kept) {
+    static const uint8_t key[16] = {0};
+    uint8_t sealed[15];
+    return aeadkit_key_init(kept, AEADKIT_AES_256_GCM, key, 32) + aeadkit_seal_with(kept, key, 12, "", 0, "", 0, sealed, 16)
+        + aeadkit_seal_in_place_with(kept, key, 12, sealed, 15, "", 0, NULL);
+}
+END
+for compiler in cc gcc clang; do
+    has=$(printf '#ifdef __has_attribute\n__has_attribute(access)\n#endif\n' | "$compiler" -E -P - 2> "$room/log" | tr -d ' \n')
+    [ "$has" = 1 ] || continue
+    LC_ALL=C "$compiler" $strict -Wno-error -c "$room/wrong.c" -o "$room/wrong.o" > "$room/log" 2>&1
+    for what in "reading 32 bytes" "writing 16 bytes" "null where non-null"; do
+        grep -q "warning: .*$what" "$room/log" || { echo "$compiler does not find $what:" >&2; cat "$room/log" >&2; exit 1; }
+    done
+done
+# The lines on its first page seal a text and open it again.
+{
+    printf '#define _DEFAULT_SOURCE\n#include "aeadkit.h"\n#include <stdio.h>\n#include <unistd.h>\nint main(void) {\n'
+    sed -n '/A MESSAGE/,/bindings\/c has/s/^     //p' "$prefix/include/aeadkit.h"
+    echo '}'
+} > "$room/first.c"
+cc $strict "$room/first.c" "$out/libaeadkit.a" -o "$room/first"
+[ "$("$room/first")" = hello ]
 echo "ok: the header, from C89$also"
 
 # The stack, over the archive, and over the shared library, of which the loader takes the build for AVX2 if it is there and the

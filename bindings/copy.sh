@@ -5,9 +5,11 @@ version_of() {
     sed -n 's/^pub const VERSION: &str = "\(.*\)";$/\1/p' "$1/crates/command/src/version.rt"
 }
 
-# Prints a file with the version in the place of 0.0.0: filled FILE VERSION
+# Prints a file with the version in the place of 0.0.0, and its numbers in the header's macros: filled FILE VERSION
 filled() {
-    sed "s/0\.0\.0/$2/" "$1"
+    numbers=${2#*.}
+    sed "s/0\.0\.0/$2/; s/VERSION_MAJOR 0\$/VERSION_MAJOR ${2%%.*}/
+        s/VERSION_MINOR 0\$/VERSION_MINOR ${numbers%%.*}/; s/VERSION_PATCH 0\$/VERSION_PATCH ${numbers#*.}/" "$1"
 }
 
 # Lays the JavaScript package of a repository out in a folder, where its module is: javascript REPOSITORY FOLDER
