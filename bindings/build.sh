@@ -42,7 +42,7 @@ here=$(cd "$(dirname "$0")" && pwd)
 . "$here/copy.sh"
 room=${AEADKIT_WORK:-$prefix/.aeadkit}
 version=$(version_of "$repository")
-mkdir -p "$room" "$prefix/include" "$prefix/lib/pkgconfig"
+mkdir -p "$room" "$prefix/lib"
 room=$(cd "$room" && pwd)
 copy "$repository" "$room"
 
@@ -76,18 +76,7 @@ if [ $whole = yes ] && [ $fast = yes ]; then
 fi
 archive "$repository" "$room" "$prefix/lib" "$here/exports.map" "$@"
 shared "$room" "$prefix/lib" "$version" "$here/exports.map"
-filled "$here/include/aeadkit.h" "$version" > "$prefix/include/aeadkit.h"
-cat > "$prefix/lib/pkgconfig/aeadkit.pc" <<END
-prefix=\${pcfiledir}/../..
-includedir=\${prefix}/include
-libdir=\${prefix}/lib
-
-Name: aeadkit
-Description: Authenticated encryption and key wrapping, proved
-Version: $version
-Cflags: -I\${includedir}
-Libs: -L\${libdir} -laeadkit
-END
+interface "$repository" "$prefix"
 [ $whole = yes ] || exit 0
 
 mkdir -p "$prefix/bin"

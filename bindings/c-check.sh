@@ -118,6 +118,35 @@ done
 ! cc -flto "$room/probe.c" -o "$room/probe" > "$room/log" 2>&1 || linked -flto "$out/libaeadkit.a"
 echo "ok: programs with each kind of path to the library, and one that is optimized as a whole"
 
+# Programs that CMake builds, over both libraries. It takes no other major version.
+if cmake --version > "$room/log" 2>&1; then
+    mkdir "$room/cmake"
+    cat > "$room/cmake/CMakeLists.txt" <<END
+cmake_minimum_required(VERSION 3.13)
+project(user C)
+find_package(aeadkit \${wanted} REQUIRED CONFIG)
+add_executable(shared "$PWD/c/calls.c")
+target_link_libraries(shared PRIVATE aeadkit::aeadkit)
+add_executable(static "$PWD/c/calls.c")
+target_link_libraries(static PRIVATE aeadkit::aeadkit_static)
+END
+    with_cmake() {
+        rm -rf "$room/cmake/out"
+        cmake -S "$room/cmake" -B "$room/cmake/out" -DCMAKE_PREFIX_PATH="$prefix" -Dwanted="$1" > "$room/log" 2>&1
+    }
+    version=$(sed -n 's/^#define AEADKIT_VERSION "\(.*\)"/\1/p' "$prefix/include/aeadkit.h")
+    for other in 2.9 "${version%%.*}.99" $((${version%%.*} + 1)); do
+        ! with_cmake "$other" || { echo "CMake takes version $version for $other" >&2; exit 1; }
+    done
+    with_cmake "${version%.*}" && cmake --build "$room/cmake/out" > "$room/log" 2>&1 || { cat "$room/log" >&2; exit 1; }
+    for kind in shared static; do
+        (unset LD_LIBRARY_PATH && "$room/cmake/out/$kind")
+    done
+    echo "ok: programs that CMake builds"
+else
+    echo "left out: CMake, which is not there"
+fi
+
 # A plug-in that links the archive keeps its names to itself.
 echo '#include "aeadkit.h"' > "$room/plugin.c"
 echo 'uint32_t plugin(void); uint32_t plugin(void) { return aeadkit_version(); }' >> "$room/plugin.c"

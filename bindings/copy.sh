@@ -12,6 +12,27 @@ filled() {
         s/VERSION_MINOR 0\$/VERSION_MINOR ${numbers%%.*}/; s/VERSION_PATCH 0\$/VERSION_PATCH ${numbers#*.}/" "$1"
 }
 
+# Lays out the header, and the files by which pkg-config and CMake find the library: interface REPOSITORY PREFIX
+interface() {
+    version=$(version_of "$1")
+    mkdir -p "$2/include" "$2/lib/pkgconfig" "$2/lib/cmake/aeadkit"
+    filled "$1/bindings/include/aeadkit.h" "$version" > "$2/include/aeadkit.h"
+    cat > "$2/lib/pkgconfig/aeadkit.pc" <<END
+prefix=\${pcfiledir}/../..
+includedir=\${prefix}/include
+libdir=\${prefix}/lib
+
+Name: aeadkit
+Description: Authenticated encryption and key wrapping, proved
+Version: $version
+Cflags: -I\${includedir}
+Libs: -L\${libdir} -laeadkit
+END
+    for name in aeadkit-config aeadkit-config-version; do
+        filled "$1/bindings/cmake/$name.cmake" "$version" > "$2/lib/cmake/aeadkit/$name.cmake"
+    done
+}
+
 # Lays the JavaScript package of a repository out in a folder, where its module is: javascript REPOSITORY FOLDER
 javascript() {
     for name in aeadkit.mjs aeadkit.d.mts node.mjs node.d.mts; do
