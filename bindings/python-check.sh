@@ -37,6 +37,10 @@ for size in 0 1 1048576 3000000; do
     "$python" "$segments" seal key label < text | cat > sealed
     "$python" "$segments" open key label < sealed | cmp - text
 done
+# the sample, which c-check.sh opens too
+printf 'a key of 32 bytes for the sample' > sample-key
+[ "$("$python" "$segments" open sample-key sample < "$here/../examples/sample.segments")" \
+    = "The parcel leaves at nine, and the letter at ten." ]
 # a text that is cut at a segment's end, has more bytes behind it or another label is refused, after a true beginning at most
 refused() {
     label=$1
@@ -47,6 +51,6 @@ refused() {
     grep -q '^segments.py: ' log
     cmp -n "$(wc -c < opened)" opened text
 }
-head -c $((40 + 1048576 + 16)) sealed | refused label
+head -c $((48 + 1048576 + 16)) sealed | refused label
 cat sealed sealed | refused label
 refused other < sealed

@@ -1,16 +1,15 @@
-"""Seals or opens a text of any size in segments of 1 MiB, from pipe to pipe: segments.py seal|open KEYFILE LABEL < IN > OUT
+"""Seals or opens a text of any size in segments, from pipe to pipe: segments.py seal|open KEYFILE LABEL < IN > OUT
 
-KEYFILE holds the 32 bytes of a key-encryption key. OUT begins with a key of this text's own, wrapped under that key; then comes
-each segment's sealing. A segment's nonce is its number and a byte that is 1 in the last segment alone, so no nonce is used
-twice under a key. LABEL says which text this is, and opening asks for it again. Against an attacker who can change what is
-stored:
-- changed bytes are refused, and so are segments that changed places, were left out or repeated: the number is in the nonce
-- a text that was cut is refused, at a segment's end too, and so is one with more behind it: only the last segment is marked
-- segments of another text are refused, which has another key; and another text as a whole, if its LABEL is another one
-- an earlier text with the same LABEL is NOT noticed
-Each segment is written as soon as it was opened. If a later one is refused, the status is 1, and OUT is a true beginning of
-the text and no more: throw it away unless the status is 0. A program that fails while it writes to the pipe leaves a beginning
-too, which is sealed like a whole text: look at its status as well.
+KEYFILE holds 32 random bytes. A sealed text begins with a head of 48 bytes: "SEG1"; the length of a segment's text, in 4 bytes
+with the highest first; and a key of this text's own, wrapped under the key of KEYFILE. Then comes each segment's sealing. A
+segment's nonce is its number and a byte that is 1 for the last segment and 0 for the others, so no nonce is used twice under a
+key. The associated data is the head and LABEL, which is not stored. bindings/c/backup.c has this format too.
+
+A text does not open if segments were changed, exchanged, left out or taken from another text, if it ends early or goes on after
+its end, or under another LABEL. An earlier text with the same LABEL is NOT noticed. Each segment is written as soon as it was
+opened. If a later one is refused, the status is 1, and OUT is a true beginning of the text and no more: throw it away unless
+the status is 0. A program that fails while it writes to the pipe leaves a beginning too, which is sealed like a whole text:
+look at its status as well.
 """
 
 import os
@@ -21,7 +20,7 @@ from aeadkit import Key, Refused, Suite, unwrap, wrap
 
 SEGMENT = 1 << 20
 TAG = 16
-WRAPPED = 40
+HEAD = 48
 
 
 def segments(source: BinaryIO, size: int) -> Iterator[Tuple[bytes, bytes]]:
@@ -37,16 +36,21 @@ def segments(source: BinaryIO, size: int) -> Iterator[Tuple[bytes, bytes]]:
 
 def seal(master: bytes, label: bytes, source: BinaryIO, target: BinaryIO) -> None:
     secret = os.urandom(32)
-    target.write(wrap(master, secret))
+    head = b"SEG1" + SEGMENT.to_bytes(4, "big") + wrap(master, secret)
+    target.write(head)
     key = Key(Suite.CHACHA20_POLY1305, secret)
     for nonce, text in segments(source, SEGMENT):
-        target.write(key.seal(nonce, text, aad=label))
+        target.write(key.seal(nonce, text, aad=head + label))
 
 
 def open_sealed(master: bytes, label: bytes, source: BinaryIO, target: BinaryIO) -> None:
-    key = Key(Suite.CHACHA20_POLY1305, unwrap(master, source.read(WRAPPED)))
-    for nonce, sealed in segments(source, SEGMENT + TAG):
-        target.write(key.open(nonce, sealed, aad=label))
+    head = source.read(HEAD)
+    size = int.from_bytes(head[4:8], "big")
+    if len(head) != HEAD or head[:4] != b"SEG1" or not 0 < size <= SEGMENT:
+        sys.exit("segments.py: not a sealed text")
+    key = Key(Suite.CHACHA20_POLY1305, unwrap(master, head[8:]))
+    for nonce, sealed in segments(source, size + TAG):
+        target.write(key.open(nonce, sealed, aad=head + label))
 
 
 def main() -> None:

@@ -13,12 +13,10 @@
 //!
 //! A text is sealed into other memory, with the tag at the end, and opened from there. From `bindings/c/message.c`:
 //! ```c
-//! if (!done("seal", aeadkit_seal(SUITE, key, KEY, nonce, sizeof nonce, (const uint8_t *)text, TEXT,
-//!                                (const uint8_t *)aad, strlen(aad), sealed, SEALED))) return 1;
+//! if (!done("seal", aeadkit_seal(SUITE, key, KEY, nonce, NONCE, text, TEXT, aad, strlen(aad), sealed, SEALED))) return 1;
 //! if (changed < SEALED) sealed[changed] ^= 1;
-//! if (done("open", aeadkit_open(SUITE, key, KEY, nonce, sizeof nonce, sealed, SEALED,
-//!                               (const uint8_t *)aad, strlen(aad), opened, TEXT))) printf("%.*s\n", TEXT, (const char *)opened);
-//! else all = 0; /* `opened` is zeros */
+//! opens = done("open", aeadkit_open(SUITE, key, KEY, nonce, NONCE, sealed, SEALED, aad, strlen(aad), opened, TEXT));
+//! if (opens) printf("%.*s\n", TEXT, (const char *)opened); /* otherwise `opened` is zeros */
 //! ```
 #![tactic(auto)]
 
