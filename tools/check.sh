@@ -90,8 +90,7 @@ if makes "$room/probe.c" cc; then
         echo "left out: C by pkg-config, which is not there"
     fi
     # Each build that is laid out has this version: otherwise the loader or the Rust crate would take an older one for AVX2.
-    number=$(echo "$version" | awk -F. '{ print $1 * 10000 + $2 * 100 + $3 }')
-    printf '#include <aeadkit.h>\nint main(void) { return aeadkit_version() != %s; }\n' "$number" > "$room/version.c"
+    printf '#include <aeadkit.h>\nint main(void) { return aeadkit_version() != AEADKIT_VERSION_NUMBER; }\n' > "$room/version.c"
     for build in lib/libaeadkit.a lib/libaeadkit.so lib/x86-64-v3/libaeadkit.a lib/glibc-hwcaps/x86-64-v3/libaeadkit.so; do
         file=$prefix/$build
         [ -e "$file" ] || continue
