@@ -60,6 +60,9 @@ class Documents(unittest.TestCase):
                 made = segments("open", *words)
                 self.assertEqual((made.returncode, made.stderr[:13]), (1, b"segments.py: "))
                 self.assertTrue(text.startswith(made.stdout) and made.stdout != text)
+            sample = FOLDER.parent / "c/examples/sample.segments"  # which backup.c opens too
+            key.write_bytes(b"a key of 32 bytes for the sample")
+            self.assertEqual(segments("open", sample.read_bytes(), "sample").stdout[:21], b"The parcel leaves at ")
             key.write_bytes(bytes(16))
             self.assertIn(b"KEYFILE is not 32 bytes long", segments("seal", b"text").stderr)
 
