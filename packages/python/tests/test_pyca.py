@@ -57,10 +57,11 @@ class Comparison(unittest.TestCase):
                     self.assertEqual(sealed, theirs.encrypt(nonce, data, label))
                     self.assertEqual(ours.decrypt(nonce=nonce, data=sealed, associated_data=label), data)
             nonce, sealed = bytes(12), ours.encrypt(bytes(12), b"data", b"label")
-            for words in [(nonce, sealed[:-1], b"label"), (nonce, sealed, None), (nonce, sealed, b"other"), (nonce, b"", None),
+            for words in ((nonce, sealed[:-1], b"label"), (nonce, sealed, None), (nonce, sealed, b"other"), (nonce, b"", None),
                           (nonce[1:] + b"x", sealed, b"label"), (nonce, sealed[:15], b"label"), (nonce, bytes(16), None),
                           (bytes(7), sealed, b"label"), (b"", sealed, b"label"), ("nonce", sealed, b"label"),
-                          (None, sealed, b"label"), (nonce, "data", b"label"), (nonce, None, b"label"), (nonce, sealed, "label")]:
+                          (None, sealed, b"label"), (nonce, "data", b"label"), (nonce, None, b"label"),
+                          (nonce, sealed, "label")):
                 self.same(ours.decrypt, theirs.decrypt, *words)
                 self.same(ours.encrypt, theirs.encrypt, *words)
         for key in (b"", bytes(15), bytes(31), bytes(33), bytes(64), "x" * 32, None):
@@ -86,7 +87,7 @@ class Comparison(unittest.TestCase):
                     self.same(wrap, pyca_wrap, key, data)
                     self.assertEqual(unwrap(key, wrap(key, data)), data)
             for size in (0, 1, 8, 15, 16, 17, 23, 24, 25, 32):
-                if not (padding and size > 16 and size % 8):  # there InvalidUnwrap here, and a ValueError of the cipher in PyCA
+                if not (padding and size > 16 and size % 8):  # PyCA raises the ValueError of its cipher there
                     self.same(unwrap, pyca_unwrap, bytes(16), bytes(size))
             for key in (b"", bytes(15), bytes(33)):
                 self.same(wrap, pyca_wrap, key, bytes(24))
