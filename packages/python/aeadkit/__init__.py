@@ -51,19 +51,22 @@ _TAG_BYTES = 16
 
 
 class InvalidTag(Exception):
-    """Authentication failed: the bytes were not sealed under this suite, key, nonce and associated data."""
+    """Authentication failed: the bytes were not sealed under this suite, key, nonce and associated data.
+
+    The library does not know which of them differs. A program should not tell its peer more than that authentication failed.
+    """
 
 
 class InvalidUnwrap(Exception):
-    """Not a valid wrapping under this key."""
+    """Authentication failed: not a valid wrapping under this key."""
 
 
 class SourceChanged(Exception):
-    """The second pass over a message was given other bytes than the first."""
+    """The second pass over a message was given other bytes than the first. What update returned is to be thrown away."""
 
 
 class StateError(Exception):
-    """The call does not fit the state: another pass, finished, closed, or in a forked process."""
+    """A call out of order: in another pass, after finish or close, or in a forked process. Nothing was changed by it."""
 
 
 _FAULTS: dict[int, tuple[type[Exception], str]] = {
@@ -220,6 +223,9 @@ class Key(_HasStruct):
     away the XOR of the two texts and enough to forge messages; under AES-GCM-SIV only whether the messages are the same. Use
     a counter, or at most 2**32 random nonces under one key. A sealing in pieces uses its nonce up even if it is never
     finished.
+
+    ValueError if the key is not `suite.key_bytes` long. The calls raise ValueError if the nonce is not 12 bytes long, or if the
+    text or the associated data is longer than `suite.text_limit` or `suite.aad_limit`, and StateError after close.
     """
 
     def __init__(self, suite: int, key: Buffer) -> None:
@@ -233,47 +239,63 @@ class Key(_HasStruct):
         return self
 
     def seal(self, nonce: Buffer, text: Buffer, *, aad: Optional[Buffer] = None) -> bytes:
-        """Returns the ciphertext of the text, followed by the tag of 16 bytes."""
+        """Returns the ciphertext of the text, followed by the tag: 16 bytes more than the text."""
         data = _bytes(text)
         sealed = _new_bytes(None, len(data) + _TAG_BYTES)
         _check(lib.aeadkit_seal_with(self._get(), *_in(nonce, data, _aad(aad)), sealed, len(sealed)))
         return sealed
 
     def open(self, nonce: Buffer, sealed: Buffer, *, aad: Optional[Buffer] = None) -> bytes:
-        """Returns the text of what seal returned, or raises InvalidTag."""
+        """Returns the text of what seal returned, under the same nonce and associated data.
+
+        InvalidTag if the bytes are not such a sealing, or are shorter than a tag. No text is returned then.
+        """
         data = _bytes(sealed)
         text = _new_bytes(None, max(len(data) - _TAG_BYTES, 0))
         _check(lib.aeadkit_open_with(self._get(), *_in(nonce, data, _aad(aad)), text, len(text)))
         return text
 
     def seal_in_place(self, nonce: Buffer, text: Buffer, *, aad: Optional[Buffer] = None) -> bytes:
-        """Replaces a text in a writable buffer by its ciphertext, and returns the tag of 16 bytes."""
+        """Replaces a text in a writable buffer by its ciphertext, and returns the tag of 16 bytes.
+
+        The ciphertext and then the tag are what seal returns. After an exception the buffer is as it was. TypeError if the
+        buffer is read-only or not contiguous.
+        """
         tag = ctypes.create_string_buffer(_TAG_BYTES)
         with _view(text) as view:
             _check(lib.aeadkit_seal_in_place_with(self._get(), *_in(nonce), *_place(view), *_in(_aad(aad)), tag))
         return tag.raw
 
     def open_in_place(self, nonce: Buffer, ciphertext: Buffer, tag: Buffer, *, aad: Optional[Buffer] = None) -> None:
-        """Replaces a ciphertext in a writable buffer by its text, or raises InvalidTag and leaves the ciphertext there."""
+        """Replaces a ciphertext in a writable buffer by its text. The tag of 16 bytes is not part of the ciphertext.
+
+        InvalidTag if they are not a sealing under this key, nonce and associated data. After this and any other exception
+        the buffer holds the ciphertext. ValueError if the tag is not 16 bytes long.
+        """
         expected = _tag(tag)
         with _view(ciphertext) as view:
             _check(lib.aeadkit_open_in_place_with(self._get(), *_in(nonce), *_place(view), *_in(_aad(aad)), expected))
 
     def sealer(self, nonce: Buffer, *, aad: Optional[Buffer] = None) -> Sealer:
-        """Begins a sealing in pieces under ChaCha20-Poly1305 or AES-GCM. The key may be closed meanwhile."""
+        """Begins a sealing in pieces under ChaCha20-Poly1305 or AES-GCM. The Key may be closed before the sealing ends.
+
+        ValueError under AES-GCM-SIV, which reads the text twice: see siv_sealer.
+        """
         sealer, struct = Sealer.__new__(Sealer), self._get()
         sealer._struct = _Struct(lib.SEALER, struct.suite, lib.aeadkit_sealer_init_with, struct, *_in(nonce, _aad(aad)))
         return sealer
 
     def opener(self, nonce: Buffer, tag: Buffer, *, aad: Optional[Buffer] = None) -> Opener:
-        """Begins an opening in pieces under any suite. `tag` is the last 16 bytes of the sealing."""
+        """Begins an opening in pieces under any suite. `tag` is the last 16 bytes of the sealing. The Key may be closed before
+        the opening ends."""
         opener, struct = Opener.__new__(Opener), self._get()
         opener._struct = _Struct(lib.OPENER, struct.suite, lib.aeadkit_opener_init_with, struct, *_in(nonce, _aad(aad)),
                                  _tag(tag))
         return opener
 
     def siv_sealer(self, nonce: Buffer, *, aad: Optional[Buffer] = None) -> SivSealer:
-        """Begins a sealing in pieces under AES-GCM-SIV. The key may be closed meanwhile."""
+        """Begins a sealing in pieces under AES-GCM-SIV. ValueError under another suite. The Key may be closed before the sealing
+        ends."""
         sealer, struct = SivSealer.__new__(SivSealer), self._get()
         sealer._struct = _Struct(lib.SIV, struct.suite, lib.aeadkit_siv_init_with, struct, *_in(nonce, _aad(aad)))
         return sealer
@@ -309,8 +331,11 @@ class _InPieces(_HasStruct):
 class Sealer(_InPieces):
     """A sealing in pieces under ChaCha20-Poly1305 or AES-GCM: update with each piece of the text, then finish.
 
-    The ciphertexts of the pieces and then the tag are what Key.seal returns for the whole text, however it is cut. Never use
-    a nonce twice under one key, not even after a Sealer that was not finished.
+    The ciphertexts of the pieces and then the tag are what Key.seal returns for the whole text, however it is cut. If several
+    threads call update, the pieces are joined in the order of the calls, which pool.map does not promise: pass the pieces
+    from one thread. Never use a nonce twice under one key, not even after a Sealer that was not finished.
+
+    Raises ValueError as Key and Key.sealer do. If this package refuses a call, the sealing and the piece are as they were.
     """
 
     def __init__(self, suite: int, key: Buffer, nonce: Buffer, *, aad: Optional[Buffer] = None) -> None:
@@ -318,7 +343,8 @@ class Sealer(_InPieces):
         self._struct = _Struct(lib.SEALER, member, lib.aeadkit_sealer_init, member, *_in(key, nonce, _aad(aad)))
 
     def update(self, piece: Buffer) -> bytes:
-        """Returns the ciphertext of the next piece of the text, which may have any length."""
+        """Returns the ciphertext of the next piece of the text, which may have any length. ValueError if the whole text would
+        be longer than `suite.text_limit`."""
         return self._update(lib.aeadkit_sealer_update, piece)
 
     def update_in_place(self, piece: Buffer) -> None:
@@ -326,7 +352,7 @@ class Sealer(_InPieces):
         self._update_in_place(lib.aeadkit_sealer_update, piece)
 
     def finish(self) -> bytes:
-        """Ends the sealing, and returns the tag of 16 bytes."""
+        """Ends the sealing, wipes its struct, and returns the tag of 16 bytes."""
         return self._get_tag(lib.aeadkit_sealer_finish)
 
 
@@ -336,6 +362,9 @@ class Opener(_InPieces):
 
     The tag, which is the last 16 bytes of a sealing, is not part of the ciphertext. The two passes may be cut differently. No
     text is returned before the whole first pass was authenticated. Use the text only when finish has returned.
+
+    Raises ValueError as Key and Key.opener do. If this package refuses check or update, the opening and the piece are as they
+    were.
     """
 
     def __init__(self, suite: int, key: Buffer, nonce: Buffer, tag: Buffer, *, aad: Optional[Buffer] = None) -> None:
@@ -343,16 +372,17 @@ class Opener(_InPieces):
         self._struct = _Struct(lib.OPENER, member, lib.aeadkit_opener_init, member, *_in(key, nonce, _aad(aad)), _tag(tag))
 
     def check(self, piece: Buffer) -> None:
-        """Takes the next piece of the ciphertext in the first pass."""
+        """Takes the next piece of the ciphertext in the first pass, which may have any length."""
         _check(self._call(lib.aeadkit_opener_check, *_in(piece)))
 
     def begin_second(self) -> None:
-        """Ends the first pass and begins the second, or raises InvalidTag, which ends the opening."""
+        """Ends the first pass and begins the second. InvalidTag if the pieces and the tag are not a sealing, which ends the
+        opening and wipes its struct."""
         _check(self._call(lib.aeadkit_opener_begin_second))
 
     def update(self, piece: Buffer) -> bytes:
-        """Returns the text of the next piece of the ciphertext in the second pass. Raises SourceChanged if the second pass
-        would be longer than the first."""
+        """Returns the text of the next piece of the ciphertext in the second pass. SourceChanged if the second pass would be
+        longer than the first."""
         return self._update(lib.aeadkit_opener_update, piece)
 
     def update_in_place(self, piece: Buffer) -> None:
@@ -360,7 +390,8 @@ class Opener(_InPieces):
         self._update_in_place(lib.aeadkit_opener_update, piece)
 
     def finish(self) -> None:
-        """Ends the second pass. Raises SourceChanged if its bytes were not those of the first: throw the text away."""
+        """Ends the second pass, and wipes the struct. SourceChanged if its bytes were not those of the first: throw the text
+        away."""
         _check(self._call(lib.aeadkit_opener_finish))
 
 
@@ -371,6 +402,9 @@ class SivSealer(_InPieces):
     The ciphertexts of the pieces and then the tag are what Key.seal returns for the whole text. The two passes may be cut
     differently. Use the ciphertext only when finish has returned. Never use a nonce twice under one key: two sealings then
     give away whether they are the same.
+
+    Raises ValueError as Key and Key.siv_sealer do. If this package refuses absorb or update, the sealing and the piece are as
+    they were.
     """
 
     def __init__(self, suite: int, key: Buffer, nonce: Buffer, *, aad: Optional[Buffer] = None) -> None:
@@ -378,7 +412,8 @@ class SivSealer(_InPieces):
         self._struct = _Struct(lib.SIV, member, lib.aeadkit_siv_init, member, *_in(key, nonce, _aad(aad)))
 
     def absorb(self, piece: Buffer) -> None:
-        """Takes the next piece of the text in the first pass."""
+        """Takes the next piece of the text in the first pass, which may have any length. ValueError if the whole text would be
+        longer than `suite.text_limit`."""
         _check(self._call(lib.aeadkit_siv_absorb, *_in(piece)))
 
     def begin_second(self) -> bytes:
@@ -386,8 +421,8 @@ class SivSealer(_InPieces):
         return self._get_tag(lib.aeadkit_siv_begin_second)
 
     def update(self, piece: Buffer) -> bytes:
-        """Returns the ciphertext of the next piece of the text in the second pass. Raises SourceChanged if the second pass
-        would be longer than the first."""
+        """Returns the ciphertext of the next piece of the text in the second pass. SourceChanged if the second pass would be
+        longer than the first."""
         return self._update(lib.aeadkit_siv_update, piece)
 
     def update_in_place(self, piece: Buffer) -> None:
@@ -395,5 +430,6 @@ class SivSealer(_InPieces):
         self._update_in_place(lib.aeadkit_siv_update, piece)
 
     def finish(self) -> None:
-        """Ends the second pass. Raises SourceChanged if its text was not that of the first: throw the ciphertext away."""
+        """Ends the second pass, and wipes the struct. SourceChanged if its text was not that of the first: throw the ciphertext
+        away."""
         _check(self._call(lib.aeadkit_siv_finish))

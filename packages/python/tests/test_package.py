@@ -100,13 +100,6 @@ class Library(unittest.TestCase):
         self.file.write_bytes(b"not a library")
         self.refused(str(self.file))
 
-    def test_under_a_prefix(self):
-        prefix = self.folder / "prefix"
-        (prefix / "lib").mkdir(parents=True)
-        shutil.copy(_library._file, prefix / "lib/libaeadkit.so")
-        made = run("-c", "import aeadkit; print(aeadkit._library._file)", folder=self.folder, AEADKIT_PREFIX=str(prefix))
-        self.assertEqual(made.stdout.decode(), f"{prefix}/lib/libaeadkit.so\n", made.stderr)
-
     @unittest.skipUnless(shutil.which("cc"), "there is no cc to build a library with")
     def test_a_library_that_does_not_fit(self):
         for version, text in ((29999, "2.99.99"), (40000, "4.0.0"), (1, "0.0.1")):
@@ -122,27 +115,23 @@ class Library(unittest.TestCase):
 class Wheel(unittest.TestCase):
     def test_the_wheel(self):
         with tempfile.TemporaryDirectory() as folder:
-            base, fast = (pathlib.Path(folder, "lib", name) for name in ("", "glibc-hwcaps/x86-64-v3"))
-            fast.mkdir(parents=True)
-            for lib in (base, fast):
-                shutil.copy(_library._file, lib / "libaeadkit.so")
+            for lib in ("lib", "lib/glibc-hwcaps/x86-64-v3"):
+                pathlib.Path(folder, lib).mkdir(parents=True)
+                shutil.copy(_library._file, pathlib.Path(folder, lib, "libaeadkit.so"))
             made = run(FOLDER / "backend.py", folder, AEADKIT_PREFIX=folder)
-            self.assertEqual(made.stderr, b"")
-            name = made.stdout.decode().strip()
-            self.assertRegex(name, rf"^aeadkit-{re.escape(aeadkit.__version__)}-py3-none-manylinux_2_\d+_x86_64")
-            site = pathlib.Path(folder, "site")
+            name, site, version = made.stdout.decode().strip(), pathlib.Path(folder, "site"), aeadkit.__version__
+            self.assertRegex(name, rf"^aeadkit-{re.escape(version)}-py3-none-manylinux_2_\d+_x86_64", made.stderr)
             with zipfile.ZipFile(pathlib.Path(folder, name)) as wheel:
                 wheel.extractall(site)
                 files = set(wheel.namelist())
-            info = f"aeadkit-{aeadkit.__version__}.dist-info"
-            self.assertEqual(files, {f"aeadkit/{file}" for file in (
+            info = site / f"aeadkit-{version}.dist-info"
+            self.assertLess({f"aeadkit/{file}" for file in (
                 "__init__.py", "_library.py", "aead.py", "keywrap.py", "py.typed", "lib/libaeadkit.so",
-                "lib/x86-64-v3/libaeadkit.so")} | {f"{info}/{file}" for file in ("METADATA", "WHEEL", "RECORD")})
-            head, _, readme = (site / info / "METADATA").read_text().partition("\n\n")
-            self.assertIn(f"Version: {aeadkit.__version__}\n", head)
+                "lib/x86-64-v3/libaeadkit.so")}, files)
+            head, _, readme = (info / "METADATA").read_text().partition("\n\n")
+            self.assertIn(f"\nVersion: {version}\n", head)
             self.assertEqual(readme, (FOLDER / "README.md").read_text())
-            record = (site / info / "RECORD").read_text()
-            self.assertEqual({line.split(",")[0] for line in record.splitlines()}, files)
+            self.assertEqual({line.split(",")[0] for line in (info / "RECORD").read_text().splitlines()}, files)
             used = run("-c", "import aeadkit; print(aeadkit._library._file)", folder=site, AEADKIT_PREFIX="")
             self.assertIn(f"{site}/aeadkit/lib/", used.stdout.decode())
 
@@ -151,7 +140,3 @@ class Wheel(unittest.TestCase):
             made = run(FOLDER / "backend.py", "/nowhere", AEADKIT_PREFIX=prefix)
             self.assertEqual(made.returncode, 1)
             self.assertRegex(made.stderr.decode(), "^aeadkit: .*AEADKIT_PREFIX.*\n$")
-
-
-if __name__ == "__main__":
-    unittest.main()

@@ -3,7 +3,6 @@
 import copy
 import os
 import pickle
-import signal
 import subprocess
 import sys
 import threading
@@ -11,25 +10,22 @@ import time
 import unittest
 from concurrent.futures import ThreadPoolExecutor
 
-from aeadkit import InvalidTag, Key, Opener, Sealer, SivSealer, StateError, Suite, aead
+from aeadkit import Key, Opener, Sealer, SivSealer, StateError, Suite, aead
 
 KEY = bytes(range(32))
 NONCE = bytes(range(12))
 TAG = bytes(16)
-SIV = Suite.AES_128_GCM_SIV
+CHACHA, GCM, SIV = Suite.CHACHA20_POLY1305, Suite.AES_256_GCM, Suite.AES_256_GCM_SIV
 LONG = 2 << 20  # a call over so many bytes takes long enough for another thread to come in between
 
 
 def states():
     """A state of each kind, with the names of its calls and their arguments."""
-    key, siv, piece = Key(Suite.CHACHA20_POLY1305, KEY), Key(SIV, KEY[:16]), b"piece"
-    opener = ("check", piece), ("begin_second",), ("update", piece), ("update_in_place", bytearray(5)), ("finish",)
-    sealer = ("update", piece), ("update_in_place", bytearray(5)), ("finish",)
-    siv_sealer = ("absorb", piece), ("begin_second",), *sealer
-    return [(Sealer(Suite.AES_256_GCM, KEY, NONCE), sealer), (key.sealer(NONCE), sealer),
-            (Opener(Suite.AES_256_GCM, KEY, NONCE, TAG), opener), (key.opener(NONCE, TAG), opener),
-            (siv.opener(NONCE, TAG), opener), (SivSealer(SIV, KEY[:16], NONCE), siv_sealer),
-            (siv.siv_sealer(NONCE), siv_sealer)]
+    key, siv = Key(CHACHA, KEY), Key(SIV, KEY)
+    last = ("update", b"piece"), ("update_in_place", bytearray(5)), ("finish",)
+    opener, siv_sealer = (("check", b"piece"), ("begin_second",), *last), (("absorb", b"piece"), ("begin_second",), *last)
+    return [(Sealer(GCM, KEY, NONCE), last), (key.sealer(NONCE), last), (Opener(GCM, KEY, NONCE, TAG), opener),
+            (key.opener(NONCE, TAG), opener), (SivSealer(SIV, KEY, NONCE), siv_sealer), (siv.siv_sealer(NONCE), siv_sealer)]
 
 
 def keys():
@@ -55,7 +51,7 @@ class Threads(unittest.TestCase):
     """assertTrue compares long bytes, since assertEqual takes minutes to print what differs."""
 
     def test_pieces_have_their_own_parts_of_the_key_stream(self):
-        zeros, key = bytes(LONG), Key(Suite.CHACHA20_POLY1305, KEY)
+        zeros, key = bytes(LONG), Key(CHACHA, KEY)
         expected = key.seal(NONCE, zeros * 2)
         halves = sorted((expected[:LONG], expected[LONG:-16]))
         for _ in range(5):
@@ -68,37 +64,6 @@ class Threads(unittest.TestCase):
             self.assertTrue(sorted(map(bytes, pieces)) == halves)
             self.assertEqual(sealer.finish(), expected[-16:])
 
-    def test_both_passes_of_an_opening(self):
-        key = Key(Suite.CHACHA20_POLY1305, KEY)
-        stream = key.seal(NONCE, bytes(2 * LONG))[:-16]
-        tag = key.seal(NONCE, stream)[-16:]  # of a ciphertext that is zeros
-        opener = key.opener(NONCE, tag)
-        at_once(*[lambda: opener.check(bytes(LONG))] * 2)
-        opener.begin_second()
-        made = at_once(*[lambda: opener.update(bytes(LONG))] * 2)
-        self.assertTrue(sorted(made) == sorted((stream[:LONG], stream[LONG:])))
-        opener.finish()
-
-    def test_both_passes_of_a_siv_sealing(self):
-        size = LONG // 16
-        expected, sealer = Key(SIV, KEY[:16]).seal(NONCE, bytes(2 * size)), SivSealer(SIV, KEY[:16], NONCE)
-        at_once(*[lambda: sealer.absorb(bytes(size))] * 2)
-        self.assertEqual(sealer.begin_second(), expected[-16:])
-        made = at_once(*[lambda: sealer.update(bytes(size))] * 2)
-        self.assertTrue(sorted(made) == sorted((expected[:size], expected[size:-16])))
-        sealer.finish()
-
-    def test_one_tag(self):
-        def finish():
-            try:
-                return sealer.finish()
-            except StateError:
-                return None
-
-        for _ in range(50):
-            sealer = Sealer(Suite.CHACHA20_POLY1305, KEY, NONCE)
-            self.assertEqual(at_once(*[finish] * 4).count(None), 3)
-
     def test_a_shared_key(self):
         for key, _ in keys():
             def round_trip(number):
@@ -107,38 +72,6 @@ class Threads(unittest.TestCase):
 
             with ThreadPoolExecutor(8) as pool:
                 self.assertTrue(all(pool.map(round_trip, range(100))))
-
-    def test_a_text_that_changes_during_the_call(self):
-        """It is copied first, so that ciphertext and tag are of the same bytes."""
-        key, text, over = Key(Suite.CHACHA20_POLY1305, KEY), bytearray(LONG), threading.Event()
-
-        def write():
-            while not over.is_set():
-                text[:] = bytes([text[0] ^ 255]) * LONG
-
-        def read():
-            try:
-                return [key.open(NONCE, key.seal(NONCE, text)) for _ in range(5)]
-            finally:
-                over.set()
-
-        self.assertEqual([len(made) for made in at_once(read, write)[0]], [LONG] * 5)
-
-    def test_a_signal_handler_that_calls_too(self):
-        """It may run while the thread that it interrupts holds the lock."""
-        sealer, pieces = Sealer(Suite.CHACHA20_POLY1305, KEY, NONCE), []
-        before = signal.signal(signal.SIGALRM, lambda *_: pieces.append(sealer.update(bytes(100))))
-        try:
-            signal.setitimer(signal.ITIMER_REAL, 0.002, 0.002)
-            end = time.monotonic() + 0.2
-            while time.monotonic() < end:
-                pieces.append(sealer.update(bytes(100)))
-        finally:
-            signal.setitimer(signal.ITIMER_REAL, 0)
-            signal.signal(signal.SIGALRM, before)
-        expected = Key(Suite.CHACHA20_POLY1305, KEY).seal(NONCE, bytes(100 * len(pieces)))
-        self.assertTrue(set(pieces) == {expected[at : at + 100] for at in range(0, 100 * len(pieces), 100)})
-        self.assertEqual(sealer.finish(), expected[-16:])
 
 
 class Closing(unittest.TestCase):
@@ -170,34 +103,28 @@ class Closing(unittest.TestCase):
 
     def test_close_beside_a_call(self):
         """A call that has begun goes on with its key, and the memory is wiped after it."""
-        text = bytes(4 * LONG)
-        expected = Key(Suite.CHACHA20_POLY1305, KEY).seal(NONCE, text)
+        text = bytes(2 * LONG)
+        expected = Key(CHACHA, KEY).seal(NONCE, text)
 
-        def or_closed(call):
+        def or_closed(call, *words):
             try:
-                return call(text)
+                return call(*words)
             except StateError:
                 return None
 
         for _ in range(5):
-            key = Key(Suite.CHACHA20_POLY1305, KEY)
+            key = Key(CHACHA, KEY)
             sealer, memory = key.sealer(NONCE), key._struct._memory
-            whole, piece, *_ = at_once(lambda: or_closed(lambda text: key.seal(NONCE, text)),
-                                       lambda: or_closed(sealer.update),
-                                       lambda: (time.sleep(0.002), key.close(), sealer.close()))
+            whole, piece, _ = at_once(lambda: or_closed(key.seal, NONCE, text), lambda: or_closed(sealer.update, text),
+                                      lambda: (time.sleep(0.002), key.close(), sealer.close()))
             self.assertTrue(whole in (None, expected) and piece in (None, expected[:-16]))
             self.assertEqual(bytes(memory), bytes(808))
 
     def test_a_state_outlives_its_key(self):
-        with Key(Suite.AES_256_GCM, KEY) as key:
+        with Key(GCM, KEY) as key:
             sealer, expected = key.sealer(NONCE), key.seal(NONCE, b"text")
         self.assertEqual(sealer.update(b"text") + sealer.finish(), expected)
-        self.assertIs(sealer.suite, Suite.AES_256_GCM)
-
-    def test_a_refused_init(self):
-        key = Key.__new__(Key)
-        self.assertRaises(ValueError, key.__init__, Suite.AES_256_GCM, b"")
-        self.assertRaises(StateError, key.seal, NONCE, b"text")
+        self.assertIs(sealer.suite, GCM)
 
     def test_the_end_of_a_program(self):
         program = ("import aeadkit\nkey = aeadkit.Key(4, bytes(32))\n"
@@ -237,36 +164,24 @@ class Forks(unittest.TestCase):
         for state, calls in states():
             def refused():
                 for name, *words in calls:
-                    try:
-                        getattr(state, name)(*words)
-                    except StateError as fault:
-                        if "forked" not in str(fault):
-                            return False
-                    else:
-                        return False
+                    self.assertRaisesRegex(StateError, "forked", getattr(state, name), *words)
                 return True
 
             self.assertTrue(self.in_child(refused), state)
-        sealer = Sealer(Suite.AES_256_GCM, KEY, NONCE)
+        sealer = Sealer(GCM, KEY, NONCE)
         made = sealer.update(b"te")
         self.assertFalse(self.in_child(lambda: sealer.update(b"XX")))
-        self.assertEqual(made + sealer.update(b"xt") + sealer.finish(), Key(Suite.AES_256_GCM, KEY).seal(NONCE, b"text"))
+        self.assertEqual(made + sealer.update(b"xt") + sealer.finish(), Key(GCM, KEY).seal(NONCE, b"text"))
 
     def test_a_key_serves_in_both_processes(self):
-        key, sealer = Key(Suite.AES_256_GCM, KEY), Sealer(Suite.AES_256_GCM, KEY, NONCE)
+        key, sealer = Key(GCM, KEY), Sealer(GCM, KEY, NONCE)
         expected = key.seal(NONCE, b"text")
 
         def serves():
-            child = key.sealer(NONCE)
-            same = key.seal(NONCE, b"text") == expected == child.update(b"text") + child.finish()
+            same = key.seal(NONCE, b"text") == expected
             key.close()
             sealer.close()
             return same
 
         self.assertTrue(self.in_child(serves))
         self.assertEqual((key.seal(NONCE, b"text"), sealer.update(b"text") + sealer.finish()), (expected, expected))
-        self.assertRaises(InvalidTag, key.open, NONCE, expected, aad=b"x")
-
-
-if __name__ == "__main__":
-    unittest.main()
