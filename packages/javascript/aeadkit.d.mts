@@ -86,7 +86,7 @@ export interface Options {
  * Throws a `TypeError` if the module is another one or of another version, and a `WebAssembly.CompileError` if the host cannot
  * compile it, as one without simd128.
  */
-export function load(module?: BufferSource | WebAssembly.Module): Promise<Aeadkit>;
+export function load(module?: ArrayBuffer | ArrayBufferView | WebAssembly.Module): Promise<Aeadkit>;
 
 /** The library: keys, and key wrap. Each `load` makes one, with a memory of its own. */
 export class Aeadkit {
@@ -191,8 +191,8 @@ export class Sealer {
     finish(): Uint8Array;
 
     /**
-     * The sealing as a stream, of Uint8Arrays: its output is the ciphertext, and at the end the tag, as `seal` returns them. A stream
-     * that fails or is aborted gives no tag, and wipes the state.
+     * The sealing as a stream of Uint8Arrays: its output is the ciphertext, and at the end the tag, as `seal` returns them. A stream
+     * that fails or is aborted gives no tag, and wipes the state (after an abort, if the host's TransformStream has `cancel`).
      */
     stream(): TransformStream<Uint8Array, Uint8Array>;
 

@@ -8,5 +8,6 @@ fi
 room=$(mktemp -d)
 trap 'rm -rf "$room"' EXIT
 cd "$(dirname "$0")"
-cc -O2 -Wall -Wextra -I "$AEADKIT_PREFIX/include" random.c -L "$AEADKIT_PREFIX/lib" -Wl,-rpath,"$AEADKIT_PREFIX/lib" -laeadkit -o "$room/random"
+cc -O2 -Wall -Wextra -I "$AEADKIT_PREFIX/include" random.c -o "$room/random" \
+    -L "$AEADKIT_PREFIX/lib" -Wl,-rpath,"$AEADKIT_PREFIX/lib" -laeadkit
 node random.mjs "$1" | "$room/random" "$1"
