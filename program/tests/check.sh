@@ -70,7 +70,7 @@ does 1 open key "another label" sealed out
 does 1 open another-key "it's a label" sealed out
 does 3 seal key label no-file out
 for damage in 'head -c 65536' 'sed s/^/x/' 'cat - key'; do
-    $damage < "a text" > changed
+    $damage < sealed > changed
     cp sealed.how changed.how
     does 1 open key "it's a label" changed out
 done
