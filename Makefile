@@ -63,7 +63,9 @@ $(PREFIX)/bin/aeadkit:
 
 check: check-documents $(packages) check-program
 check-documents:
-	python3 tools/documents.py check
+	python3 tools/documents.py
+	python3 tools/documents/sheets.py
+	python3 bench/speed.py
 check-c: $(PREFIX)/lib/libaeadkit.a
 	$(MAKE) -C packages/c check PREFIX="$(PREFIX)" OUT="$(BUILD)/c"
 check-rust: $(PREFIX)/lib/libaeadkit.a

@@ -12,6 +12,7 @@ enum { LARGEST = 16384, LONGEST_RANDOM = 8192, MOST = 128, ROUNDS = 31 };
 
 static uint8_t store[2 * LARGEST], wanted[LARGEST + 16], plain[LARGEST], data[LONGEST_RANDOM];
 static struct message messages[MOST];
+static const char *figures; /* the file of --data */
 
 /* A number of a fixed sequence (xorshift64). */
 static uint64_t draw(void) {
@@ -103,6 +104,21 @@ static void pass(const struct party *party, const struct kind *kind, size_t coun
 
 static const char *const directions[] = {"sealing", "opening"};
 
+/* Adds each party's figure to the file of --data, a line of words: the kind, the direction, the length, the party,
+   what its peers may use, whether keys are kept, and nanoseconds. */
+static void note(const struct kind *kind, int direction, size_t length, double (*best)[2]) {
+    static const char *const may[] = {"plain", "avx2", "all"};
+    FILE *file = figures ? fopen(figures, "a") : NULL;
+    for (int p = 0; file && p < PARTIES; p++)
+        if (best[p][direction] != 0)
+            fprintf(file, "%s\t%s\t%zu\t%s\t%s\t%s\t%.0f\n", kind->name, directions[direction], length,
+                    parties[p].name, may[capability], kept ? "kept" : "new", best[p][direction]);
+    if (figures && (!file || fclose(file) != 0)) {
+        perror(figures);
+        exit(2);
+    }
+}
+
 static void tables(int runs) {
     static const size_t lengths[] = {16, 64, 256, 1024, 4096, LARGEST};
     enum { LENGTHS = sizeof lengths / sizeof *lengths };
@@ -126,6 +142,7 @@ static void tables(int runs) {
             int first = 0;
             for (int p = 1; p < PARTIES; p++)
                 if (of[p][row % 2] != 0 && (!first || of[p][row % 2] < of[first][row % 2])) first = p;
+            note(&kinds[row / 2], row % 2, lengths[l], of);
             printf(" %.0f", of[0][row % 2]);
             if (first) printf(", %.2f %s", of[first][row % 2] / of[0][row % 2], parties[first].name);
             printf(" |");
@@ -209,6 +226,7 @@ int main(int argc, char **argv) {
     if (*word && strcmp(*word, "--avx2") == 0) capability = AVX2, word++;
     else if (*word && strcmp(*word, "--all") == 0) capability = ALL, word++;
     if (*word && strcmp(*word, "--kept") == 0) kept = 1, word++;
+    if (*word && word[1] && strcmp(*word, "--data") == 0) figures = word[1], word += 2;
     if (*word && strcmp(*word, "scan") == 0) mode = scan, word++;
     else if (*word && strcmp(*word, "random") == 0) mode = try_random, word++;
     int number = *word ? atoi(*word++) : mode == tables ? 10 : mode == scan ? 50 : 100000;

@@ -86,12 +86,12 @@ static int by_aeadkit(const struct kind *kind, const struct message *m, enum dir
         struct aeadkit_key *key = &keys[kind - kinds];
         if (to_set(&set[kind - kinds]) && aeadkit_key_init(key, kind->suite, m->key, k)) return 0;
         return !(direction == SEALING
-            ? aeadkit_seal_in_place_with(key, m->nonce, 12, m->aad, m->aad_length, bytes, n, tag)
-            : aeadkit_open_in_place_with(key, m->nonce, 12, m->aad, m->aad_length, bytes, n, tag));
+            ? aeadkit_seal_in_place_with(key, m->nonce, 12, bytes, n, m->aad, m->aad_length, tag)
+            : aeadkit_open_in_place_with(key, m->nonce, 12, bytes, n, m->aad, m->aad_length, tag));
     }
     return !(direction == SEALING
-        ? aeadkit_seal_in_place(kind->suite, m->key, k, m->nonce, 12, m->aad, m->aad_length, bytes, n, tag)
-        : aeadkit_open_in_place(kind->suite, m->key, k, m->nonce, 12, m->aad, m->aad_length, bytes, n, tag));
+        ? aeadkit_seal_in_place(kind->suite, m->key, k, m->nonce, 12, bytes, n, m->aad, m->aad_length, tag)
+        : aeadkit_open_in_place(kind->suite, m->key, k, m->nonce, 12, bytes, n, m->aad, m->aad_length, tag));
 }
 
 #ifdef WITH_OPENSSL

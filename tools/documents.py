@@ -1,9 +1,7 @@
 #!/usr/bin/env python3
-"""Compares the documents with what they speak of.
+"""Compares the documents with what they speak of: quotations, links, names of code, and docs/published.vectors.
 
-documents.py check   says what differs: quotations, links, the numbers of docs/PROOFS.md, docs/published.vectors
-documents.py count   writes the numbers of docs/PROOFS.md in place of comparing them
-"""
+Run without words, it says what differs. documents/sheets.py compares the definitions, and bench/speed.py the figures."""
 
 import itertools
 import pathlib
@@ -12,7 +10,6 @@ import sys
 import textwrap
 
 TOP = pathlib.Path(__file__).resolve().parent.parent
-PROOFS = "docs/PROOFS.md"
 faults = []
 
 
@@ -181,166 +178,6 @@ def map_row(place, line, crate, mapped):
     return crate
 
 
-# ---- The definitions that docs/PROOFS.md leads through. It has these tables:
-#   | file | defines | section | lines |      each word in backticks is defined in the file of its row
-#   | to believe | tables | lines |           no definition in the tables of a row uses one that they don't have. A row that names a
-#                                             construction, as `ByGcm`, leaves the cases of the others out
-#   | word | of | meaning |                   words of the toolchain, which some file takes from there
-#   | published value | lemma | computed |    lemmas, each defined in the file of its row
-# A line counts if it belongs to a definition and is neither blank nor a comment.
-
-
-class Sources:
-    """The files of specs/, proofs/ and src/: what each takes from others, and the lines of each definition."""
-
-    def __init__(self):
-        self.taken_from, self.alias, self.taken, self.text = {}, {}, set(), {}
-        for path in paths("crates/*/specs/**/*.antt", "crates/*/proofs/**/*.antt", "crates/*/src/**/*.rt"):
-            self.read(path)
-
-    def read(self, path):
-        name = uses = ""
-        for line in lines_of(path):
-            if uses or re.match(r" *(ghost )?use Rattle\.", line):
-                uses += line
-                if "{" not in uses or "}" in uses:
-                    self.take_use(path, re.sub(r"^.*?use +", "", uses))
-                    uses = ""
-            elif path.endswith(".rt"):
-                continue
-            elif not line.strip() or line.startswith("--"):
-                name = ""
-            elif not line.lstrip().startswith("--"):
-                head = re.match(r"(?:(?:abbrev|unfoldable|opaque|pub|data|record) +)*([A-Za-z_][\w-]*) *[:({]", line)
-                if head:
-                    name = head[1]
-                if name:
-                    self.text.setdefault((path, name), []).append(line)
-
-    def take_use(self, path, use):
-        module, brace, names = use.partition(".{")
-        if not brace:
-            if " as " in use:
-                module, other = use.split(" as ")
-                self.alias[path, other.strip()] = module
-            return
-        for name in re.sub(r"\}.*| ", "", names).split(","):
-            self.taken_from[path, name] = module
-            if "/proofs/" not in path:
-                self.taken.add((module, name))
-
-    def used(self, path, name, construction):
-        """Each word that a definition uses, with the module of the toolchain or the file that it comes from."""
-        is_other = False
-        for line in self.text[path, name]:
-            if not line.startswith(" "):
-                case = re.match(re.escape(name) + r" (By[A-Za-z]+)", line)
-                is_other = bool(construction and case and case[1] != construction)
-            if is_other:
-                continue
-            for word in re.findall(r"[\w.-]+", re.sub(r'"[^"]*"', "", line)):
-                first, _, rest = word.partition(".")
-                if (path, first) in self.alias and rest:
-                    yield rest.split(".")[0], file_of(self.alias[path, first])
-                elif (path, first) in self.taken_from:
-                    yield first, file_of(self.taken_from[path, first])
-                else:
-                    yield first, path
-
-
-def file_of(module):
-    """The file of a module, as Rattle.aead.specs.Sealing; a module of the toolchain stands for itself."""
-    if re.match(r"Rattle\.(std|hex)\.", module):
-        return module
-    return "crates/" + "/".join(module.split(".")[1:]) + ".antt"
-
-
-HEADS = {
-    "| file | defines | section | lines |": "defines",
-    "| to believe | tables | lines |": "believe",
-    "| word | of | meaning |": "toolchain",
-    "| published value | lemma | computed |": "lemmas",
-}
-
-
-def rows(page):
-    """The rows of the tables above, each with its line, its kind and the heading above it."""
-    kind = title = ""
-    for at, line in enumerate(page):
-        if line.startswith("#"):
-            title = line.lstrip("#").strip()
-        kind = HEADS.get(line, kind) if line.startswith("|") else ""
-        if kind and line not in HEADS and not line.startswith("|-"):
-            yield at, kind, title, line.split("|")[1:-1]
-
-
-def believe(write=False):
-    sources, page = Sources(), lines_of(PROOFS)
-    whole = "\n".join(page)
-    shown = {word.split(" ")[0] for line in page for word in words(line)}
-    for path in paths("crates/*/specs/**/*.antt"):
-        if not re.search(r"/(Lib|Code)\.antt$|/Code/", path) and f"../{path}" not in whole:
-            wrong(PROOFS, f"no link to {path}")
-    members, totals, counted = {}, {}, set()
-    numbers = {"words of the toolchain": 0, "lemmas": 0}
-    for at, kind, title, cells in rows(page):
-        if kind == "defines" and not cells[0].startswith(" together"):
-            path = re.sub(r".*\]\(\.\./|\).*", "", cells[0]).strip()
-            named = [(path, word) for word in words(cells[1])]
-            for path, word in named:
-                if (path, word) not in sources.text or (path, word) in members.setdefault(title, []):
-                    wrong(f"{PROOFS}:{at + 1}", f"{word} is not defined in {path}, or stands twice in the table")
-                members[title].append((path, word))
-            totals[at] = lines_in(sources, named)
-    for at, kind, title, cells in rows(page):
-        place = f"{PROOFS}:{at + 1}"
-        if cells[0].startswith(" together"):
-            totals[at] = lines_in(sources, members[title])
-        elif kind == "believe":
-            tables = [table.strip() for table in cells[1].split(";")]
-            wanted = {member for table in tables for member in members.get(table, [])}
-            counted |= wanted
-            totals[at] = lines_in(sources, wanted)
-            for path, name in wanted & sources.text.keys():
-                for word, source in set(sources.used(path, name, (words(cells[0]) or [""])[0])):
-                    if source.startswith("Rattle.") and word not in shown:
-                        wrong(place, f"{name} uses {word} of the toolchain, which the page does not name")
-                    if (source, word) in sources.text and (source, word) not in wanted:
-                        wrong(place, f"{name} of {path} uses {word} of {source}, which no table of the row has")
-        elif kind == "toolchain":
-            for word in words(cells[0]):
-                numbers["words of the toolchain"] += 1
-                if (words(cells[1])[0], word.split(" ")[0]) not in sources.taken:
-                    wrong(place, f"no file takes {word} from {cells[1].strip()}")
-        elif kind == "lemmas":
-            path = [word for word in words("|".join(cells)) if re.match(r"crates/.*\.antt$", word)][-1:]
-            for word in words("|".join(cells)) if path else []:
-                if re.fullmatch(r"[a-z_0-9]+", word) and word != "refl":
-                    numbers["lemmas"] += 1
-                    if (path[0], word) not in sources.text:
-                        wrong(place, f"{word} is not defined in {path[0]}")
-    if not counted or not all(numbers.values()):
-        wrong(PROOFS, "a table is missing")
-    right = list(page)
-    for at, total in totals.items():
-        right[at] = re.sub(r"\| *[0-9?]* *\|$", f"| {total} |", page[at])
-        if right[at] != page[at] and not write:
-            wrong(f"{PROOFS}:{at + 1}", f"the definitions of this row have {total} lines: documents.py count writes it")
-    if write:
-        (TOP / PROOFS).write_text("\n".join(right) + "\n")
-    # README names the lines of a suite, of all six, and of the vector file with its faults.
-    for line in right:
-        if count := re.match(r"\| (?:a whole message under|the vector file and) .*\| (\d+) \|$", line):
-            if not re.search(rf"\b{count[1]}\b", (TOP / "README.md").read_text()):
-                wrong("README.md", f"the {count[1]} lines that {PROOFS} has are not named")
-    return f"{len(counted)} definitions of {lines_in(sources, counted)} lines, " + ", ".join(
-        f"{number} {what}" for what, number in numbers.items())
-
-
-def lines_in(sources, named):
-    return sum(len(sources.text.get(name, [])) for name in named)
-
-
 # ---- docs/published.vectors has the published vectors of the tests, each under its source, and records that are refused.
 
 
@@ -365,9 +202,9 @@ def published():
     return f"{len(records)} published vectors, {len(records) - len(opened)} of them refused"
 
 
-if sys.argv[1:] not in (["check"], ["count"]):
-    sys.exit(__doc__.strip())
-done = [quotations(), links(), believe(sys.argv[1] == "count"), published()]
+if sys.argv[1:]:
+    sys.exit(__doc__)
+done = [quotations(), links(), published()]
 if faults:
     sys.exit("\n".join(faults))
 print("ok: " + "; ".join(done))

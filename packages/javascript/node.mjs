@@ -1,9 +1,9 @@
-// The calls of the library, read from the package's folder.
-import { readFileSync } from "node:fs";
-import { Aead, KeyWrap } from "./aeadkit.mjs";
+// In Node the module is read from the package's folder.
+import { readFile } from "node:fs/promises";
+import { load as loadModule } from "./aeadkit.mjs";
 
 export * from "./aeadkit.mjs";
 
-const library = readFileSync(new URL("./aeadkit.wasm", import.meta.url));
-export const aead = new Aead(library);
-export const keywrap = new KeyWrap(library);
+export async function load(module) {
+    return loadModule(module ?? await readFile(new URL("./aeadkit.wasm", import.meta.url)));
+}

@@ -1,7 +1,7 @@
-"""Builds a wheel that holds the library, with nothing but Python: for pip, and as backend.py OUT.
+"""Builds the wheel, with Python alone: for pip, and as `python3 backend.py FOLDER`.
 
-The library comes from the folder lib of the prefix that the variable AEADKIT_PREFIX names, or of the one that this folder
-was laid out in, as share/aeadkit/python. Its version must be that of the package, which is the wheel's name.
+The library comes from the prefix that AEADKIT_PREFIX names: lib/libaeadkit.so, and the build for x86-64-v3 under
+lib/glibc-hwcaps if it is there. The wheel has the version of the library.
 """
 
 import base64
@@ -14,74 +14,73 @@ import sys
 import zipfile
 
 HERE = pathlib.Path(__file__).resolve().parent
-TAG = "py3-none-linux_x86_64"
+BUILDS = {"lib/libaeadkit.so": "aeadkit/lib/libaeadkit.so",
+          "lib/glibc-hwcaps/x86-64-v3/libaeadkit.so": "aeadkit/lib/x86-64-v3/libaeadkit.so"}
 
 
-def _field(name):
-    """A text of pyproject.toml."""
-    return re.search(rf'^{name} = "(.*)"$', (HERE / "pyproject.toml").read_text(), re.MULTILINE).group(1)
+def _libraries():
+    """Each build of the library, as the name in the wheel and the file."""
+    prefix = os.environ.get("AEADKIT_PREFIX")
+    if not prefix:
+        raise SystemExit("aeadkit: set AEADKIT_PREFIX to a prefix that has lib/libaeadkit.so: the package needs the library")
+    found = [(name, pathlib.Path(prefix, file)) for file, name in BUILDS.items() if pathlib.Path(prefix, file).exists()]
+    if not found:
+        raise SystemExit(f"aeadkit: {prefix}/lib/libaeadkit.so is not there: build the library into AEADKIT_PREFIX first")
+    return found
 
 
-def _check_version(library):
-    """The wheel has the name of one version, and must not hold a library of another."""
-    number = ctypes.CDLL(str(library)).aeadkit_version()
-    version = f"{number // 10000}.{number // 100 % 100}.{number % 100}"
-    if version != _field("version"):
-        raise SystemExit(f"{library} has the version {version}, and the package {_field('version')}: run build.sh again")
+def _version(libraries):
+    """The version of the builds, which must be one."""
+    versions = {ctypes.CDLL(str(file)).aeadkit_version() for _, file in libraries}
+    if len(versions) != 1:
+        raise SystemExit(f"aeadkit: the builds of the library have the versions {sorted(versions)}: build them anew")
+    number = versions.pop()
+    return f"{number // 10000}.{number // 100 % 100}.{number % 100}"
 
 
-def _files():
-    """The files of the package, each with its name in the wheel."""
-    prefix = pathlib.Path(os.environ.get("AEADKIT_PREFIX") or HERE.parents[2])
-    lib = prefix / "lib"
-    base = lib / "libaeadkit.so.3"
-    if not base.exists():
-        raise SystemExit(f"{base} is not there: set AEADKIT_PREFIX to what build.sh laid out")
-    for name in ("__init__.py", "_library.py", "py.typed"):
-        yield f"aeadkit/{name}", HERE / "aeadkit" / name
-    _check_version(base)
-    yield "aeadkit/lib/libaeadkit.so.3", base
-    fast = lib / "glibc-hwcaps/x86-64-v3/libaeadkit.so.3"
-    if fast.exists():
-        _check_version(fast)
-        yield "aeadkit/lib/x86-64-v3/libaeadkit.so.3", fast
+def _tag(libraries):
+    """The tag of the oldest glibc whose symbols the builds need, by PEP 600. Both need memcpy of 2.14 and nothing newer, so
+    that the tag is that of 2.17, the oldest one that every pip and index knows."""
+    newest = 17
+    for _, file in libraries:
+        newest = max([newest, *(int(minor) for minor in re.findall(rb"\0GLIBC_2\.(\d+)", file.read_bytes()))])
+    return f"py3-none-manylinux_2_{newest}_x86_64" + (".manylinux2014_x86_64" if newest == 17 else "")
 
 
-def _metadata():
-    return (f"Metadata-Version: 2.1\nName: {_field('name')}\nVersion: {_field('version')}\n"
-            f"Summary: {_field('description')}\nRequires-Python: {_field('requires-python')}\n")
-
-
-def get_requires_for_build_wheel(config_settings=None):
-    return []
+def _metadata(version):
+    project = dict(re.findall(r'^(name|description|requires-python) = "(.*)"$', (HERE / "pyproject.toml").read_text(), re.M))
+    return (f"Metadata-Version: 2.1\nName: {project['name']}\nVersion: {version}\nSummary: {project['description']}\n"
+            f"Requires-Python: {project['requires-python']}\nDescription-Content-Type: text/markdown\n\n"
+            + (HERE / "README.md").read_text())
 
 
 def build_wheel(wheel_directory, config_settings=None, metadata_directory=None):
-    """Writes the wheel to a folder, and returns its name."""
-    stem = f"{_field('name')}-{_field('version')}"
-    info = f"{stem}.dist-info"
-    contents = [(name, path.read_bytes()) for name, path in _files()]
-    contents.append((f"{info}/METADATA", _metadata().encode()))
-    wheel = f"Wheel-Version: 1.0\nGenerator: aeadkit\nRoot-Is-Purelib: false\nTag: {TAG}\n"
-    contents.append((f"{info}/WHEEL", wheel.encode()))
-    record = ""
+    """Writes the wheel to a folder, and returns its name (PEP 517)."""
+    libraries = _libraries()
+    version, tag = _version(libraries), _tag(libraries)
+    info = f"aeadkit-{version}.dist-info"
+    sources = sorted((HERE / "aeadkit").glob("*.py")) + [HERE / "aeadkit/py.typed"]
+    contents = [(f"aeadkit/{file.name}", file.read_bytes()) for file in sources]
+    contents += [(name, file.read_bytes()) for name, file in libraries]
+    tags = "".join(f"Tag: py3-none-{platform}\n" for platform in tag.split("-")[2].split("."))
+    contents += [(f"{info}/METADATA", _metadata(version).encode()),
+                 (f"{info}/WHEEL", f"Wheel-Version: 1.0\nGenerator: aeadkit\nRoot-Is-Purelib: false\n{tags}".encode())]
+    record = f"{info}/RECORD,,\n"
     for name, data in contents:
         digest = base64.urlsafe_b64encode(hashlib.sha256(data).digest()).rstrip(b"=").decode()
         record += f"{name},sha256={digest},{len(data)}\n"
-    contents.append((f"{info}/RECORD", f"{record}{info}/RECORD,,\n".encode()))
-    file = f"{stem}-{TAG}.whl"
-    with zipfile.ZipFile(pathlib.Path(wheel_directory) / file, "w", zipfile.ZIP_DEFLATED) as archive:
-        for name, data in contents:
+    wheel = f"aeadkit-{version}-{tag}.whl"
+    with zipfile.ZipFile(pathlib.Path(wheel_directory, wheel), "w", zipfile.ZIP_DEFLATED) as archive:
+        for name, data in contents + [(f"{info}/RECORD", record.encode())]:
             archive.writestr(zipfile.ZipInfo(name), data, zipfile.ZIP_DEFLATED)
-    return file
+    return wheel
 
 
 def build_sdist(sdist_directory, config_settings=None):
-    raise SystemExit("there is no source distribution: the wheel holds a library that build.sh makes")
+    raise SystemExit("aeadkit: there is no source distribution, since the library is proved and built elsewhere: build a wheel")
 
 
 if __name__ == "__main__":
     if len(sys.argv) != 2:
-        print("usage: backend.py OUT", file=sys.stderr)
-        sys.exit(2)
+        sys.exit("usage: python3 backend.py FOLDER")
     print(build_wheel(sys.argv[1]))

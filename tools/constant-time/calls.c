@@ -177,20 +177,20 @@ static void whole(size_t n, size_t a, uint64_t number) {
         return;
     }
     if (strstr(target, "in_place")) {
-        if (with) CALL("seal_in_place_with", AEADKIT_DONE, aeadkit_seal_in_place_with(&kept, nonce, 12, aad, a, work, n, tag));
-        else CALL("seal_in_place", AEADKIT_DONE, aeadkit_seal_in_place(suite, key, k, nonce, 12, aad, a, work, n, tag));
+        if (with) CALL("seal_in_place_with", AEADKIT_DONE, aeadkit_seal_in_place_with(&kept, nonce, 12, work, n, aad, a, tag));
+        else CALL("seal_in_place", AEADKIT_DONE, aeadkit_seal_in_place(suite, key, k, nonce, 12, work, n, aad, a, tag));
         public(work, n);
         public(tag, sizeof tag);
         if (refused) forge(work, n, tag, number);
-        if (with) CALL("open_in_place_with", wanted, aeadkit_open_in_place_with(&kept, nonce, 12, aad, a, work, n, tag));
-        else CALL("open_in_place", wanted, aeadkit_open_in_place(suite, key, k, nonce, 12, aad, a, work, n, tag));
+        if (with) CALL("open_in_place_with", wanted, aeadkit_open_in_place_with(&kept, nonce, 12, work, n, aad, a, tag));
+        else CALL("open_in_place", wanted, aeadkit_open_in_place(suite, key, k, nonce, 12, work, n, aad, a, tag));
     } else {
-        if (with) CALL("seal_with", AEADKIT_DONE, aeadkit_seal_with(&kept, nonce, 12, aad, a, text, n, sealed, n + 16));
-        else CALL("seal", AEADKIT_DONE, aeadkit_seal(suite, key, k, nonce, 12, aad, a, text, n, sealed, n + 16));
+        if (with) CALL("seal_with", AEADKIT_DONE, aeadkit_seal_with(&kept, nonce, 12, text, n, aad, a, sealed, n + 16));
+        else CALL("seal", AEADKIT_DONE, aeadkit_seal(suite, key, k, nonce, 12, text, n, aad, a, sealed, n + 16));
         public(sealed, n + 16);
         if (refused) forge(sealed, n, sealed + n, number);
-        if (with) CALL("open_with", wanted, aeadkit_open_with(&kept, nonce, 12, aad, a, sealed, n + 16, opened, n));
-        else CALL("open", wanted, aeadkit_open(suite, key, k, nonce, 12, aad, a, sealed, n + 16, opened, n));
+        if (with) CALL("open_with", wanted, aeadkit_open_with(&kept, nonce, 12, sealed, n + 16, aad, a, opened, n));
+        else CALL("open", wanted, aeadkit_open(suite, key, k, nonce, 12, sealed, n + 16, aad, a, opened, n));
     }
 }
 
@@ -324,7 +324,7 @@ static void in_two_passes(size_t n, size_t a, uint64_t number) {
     size_t k = key_length(), at = 0;
     int saving = is("opener_save") || is("opener_resume");
     int forged = refused && is("opener_begin_second");
-    CALL("", AEADKIT_DONE, aeadkit_seal_in_place(suite, key, k, nonce, 12, aad, a, work, n, tag));
+    CALL("", AEADKIT_DONE, aeadkit_seal_in_place(suite, key, k, nonce, 12, work, n, aad, a, tag));
     public(work, n);
     public(tag, sizeof tag);
     if (forged) forge(work, n, tag, number);

@@ -30,6 +30,7 @@ pub trait Aead {
     /// The nonce must never be used twice under one key. Under ChaCha20-Poly1305 and AES-GCM a repeat gives away the XOR of
     /// the two texts, and enough to forge messages; under AES-GCM-SIV it gives away only whether the texts and the
     /// associated data were the same.
+    // It returns no `Result`, which would go through memory for a short message.
     fn seal_fitting(&self, nonce: &Nonce, aad: &[u8], text: &mut [u8]) -> Tag
         requires aad_fits { length aad.now ≤ aad_limit (keyed self.now).suite }
         requires text_fits { length text.old ≤ text_limit (keyed self.now).suite }

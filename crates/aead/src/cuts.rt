@@ -72,6 +72,7 @@ pub fn seal_cut<A: Allocator + Copy>(
         (λ e. WholeSealRefused s text.now e) }
 {
     sealing_has_one_text();
+    // The text is sealed whole first, so that the proof needs only the contract of `seal`.
     let sealed = seal(alloc, cipher, nonce, aad, text)?;
     let (body, tag) = sealed.split_at(text.len());
     let mut pieces = Vec::new(alloc);

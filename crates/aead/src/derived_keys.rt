@@ -1,6 +1,6 @@
 //! The keys of a message of AES-GCM-SIV, which are derived from the key and the nonce (RFC 8452, 4).
 
-ghost use Rattle.std.specs.Prelude.{◌≡◌, ℕ, ◌+◌, ◌<◌, ◌++◌, length, take};
+ghost use Rattle.std.specs.Prelude.{◌≡◌, ℕ, ◌+◌, ◌*◌, ◌<◌, ◌≤◌, ◌++◌, length, take};
 ghost use Rattle.std.specs.Int.{w32, to_le_bytes};
 ghost use Rattle.octets.specs.Bytes.{IsBlock, block_at};
 ghost use Rattle.gf128.specs.Polyval.{IsReversedMulX};
@@ -24,13 +24,14 @@ pub(crate) fn joined<const N: usize, const T: usize>(first: &[u8; N], second: &[
     both
 }
 
-// Returns the first half of a block.
-fn first_half(block: &[u8; 16]) -> [u8; 8]
-    ensures { result ≡ take 8 block.now }
+// Returns the first half of block `q` of concatenated blocks.
+fn first_half(blocks: &[u8], q: usize) -> [u8; 8]
+    requires { 16 * q + 16 ≤ length blocks.now }
+    ensures { result ≡ take 8 (block_at blocks.now q) }
 {
-    let mut first = [0; 8];
-    first.copy_from_slice(&block[..8]);
-    first
+    let mut half = [0; 8];
+    half.copy_from_slice(&blocks[16 * q..16 * q + 8]);
+    half
 }
 
 // Returns the block of a number and a nonce (RFC 8452, 4).
@@ -80,18 +81,17 @@ impl<'a> KeyParts<'a> {
         requires { i < 4 }
         ensures { result ≡ key_part self.now.key.now self.now.nonce.now i }
     {
-        let mut half = [0; 8];
-        half.copy_from_slice(&self.blocks[16 * i..16 * i + 8]);
-        half
+        first_half(&self.blocks, i)
     }
 }
 
-// Derives part `i` of the keys, 8 bytes (RFC 8452, 4).
-fn key_part(key: &AesKey, nonce: &Nonce, i: u32) -> [u8; 8]
-    ensures { result ≡ key_part key.now nonce.now i }
+// Derives parts 4 and 5 of the keys, joined (RFC 8452, 4). Both blocks are encrypted at once.
+fn last_parts(key: &AesKey, nonce: &Nonce) -> [u8; 16]
+    ensures { result ≡ key_part key.now nonce.now 4 ++ key_part key.now nonce.now 5 }
 {
-    let block = key.encrypt_in_registers(&Block::new(numbered(i, nonce.bytes())));
-    first_half(block.bytes())
+    let bytes = nonce.bytes();
+    let blocks = key.encrypt_two(&joined(&numbered(4, bytes), &numbered(5, bytes)));
+    joined(&first_half(&blocks, 0), &first_half(&blocks, 1))
 }
 
 // Returns the encryption key of 16 bytes: parts 2 and 3 (RFC 8452, 4).
@@ -108,11 +108,7 @@ pub(crate) fn long_encryption_key(parts: &KeyParts) -> [u8; 32]
     ensures { result ≡ encryption_key parts.now.key.now parts.now.nonce.now }
 {
     let first: [u8; 16] = joined(&parts.at(2), &parts.at(3));
-    let second: [u8; 16] = joined(
-        &key_part(parts.key, parts.nonce, 4),
-        &key_part(parts.key, parts.nonce, 5),
-    );
-    joined(&first, &second)
+    joined(&first, &last_parts(parts.key, parts.nonce))
 }
 
 // Returns the key of POLYVAL's multiplier in GHASH's field (RFC 8452, appendix A). POLYVAL's key is parts 0 and 1 (RFC 8452, 4).

@@ -28,7 +28,7 @@ fn step_beside<S: MaskStream, H: TagHash>(
 }
 
 // Masks a piece and authenticates it. Where the order is a constant, as it is in every call on a whole message, nothing of the
-// choice is left in the program.
+// choice is left in the program. It is not a type, which every function that passes it on would have to name.
 #[inline(always)]
 pub(crate) fn step<S: MaskStream, H: TagHash>(
     order: Order,

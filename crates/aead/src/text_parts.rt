@@ -10,7 +10,7 @@ use crate::mask::MaskStream;
 use crate::step::step;
 use octets::Order;
 
-// The length of the buffer in bytes.
+// The length of the buffer in bytes. It is on the stack, and the header for C says how much stack a call takes at most.
 const PART: usize = 2048;
 
 // Authenticates the text of a part of a ciphertext.

@@ -10,7 +10,7 @@ use std::fs;
 use std::process::ExitCode;
 
 // The path that is opened in place of a standard stream that is closed: a folder, which can be neither read
-// nor written as a file.
+// nor written as a file. With the null device a sealing would be lost with status 0.
 const NO_STREAM: &str = "/";
 
 fn main(rt: HostRuntime) -> ExitCode {

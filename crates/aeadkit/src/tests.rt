@@ -1,4 +1,5 @@
-//! The tests of all crates. `of_NAME` tests the crate NAME; the other modules are shared by several of these.
+//! The tests of all crates. `of_NAME` tests the crate NAME; the other modules are shared by several of these. A row of a test is
+//! a line of text that is split when the test runs, since each constant that a function names makes it dearer to prove.
 mod devices;
 mod digits;
 mod memory;

@@ -134,6 +134,7 @@ impl Count for FirstFour {
 
 /// A counter block with its cipher, or neither. A stream that begins inside this block need not encrypt it again. The cipher is as
 /// secret as the text that is XORed with it.
+// It holds no position: the stream compares the block with the one that it wants, so only the cipher has to be right.
 #[derive(Clone, Copy)]
 pub struct KnownBlock {
     block: [u8; 16],

@@ -10,6 +10,8 @@ use octets::Block;
 use std::simd::prelude::*;
 use std::simd::u8x16;
 
+// It is a type of its own, so that a caller that only encrypts does not make it. No definition has an inverse cipher: the
+// contract of `decrypt` speaks of the cipher alone.
 /// A key of AES made ready to decrypt many blocks: its round keys, with InvMixColumns applied to all but the first and the last
 /// (FIPS 197, 5.3.5). No table in memory is looked up by a byte of the key or of a state; that its calls take the same time for
 /// all keys and blocks is not proved.

@@ -264,7 +264,7 @@ fn expand256(key: &[u8]) -> [[u8; 16]; 15]
     keys
 }
 
-// The round keys of a key of nk words.
+// The round keys of a key of nk words. They are arrays of bytes, since numbers of 128 bits take longer to make.
 pub(crate) fn expand(key: &[u8], nk: usize) -> [[u8; 16]; 15]
     requires size { IsKeySize nk }
     requires long { length key.now ≡ 4 * nk }

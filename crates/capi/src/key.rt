@@ -163,8 +163,8 @@ pub extern "C" fn aeadkit_key_init(kept: &mut KeyNumbers, suite: u32, key: &[u8]
 pub extern "C" fn aeadkit_seal_in_place_with(
     kept: &StoredKey,
     nonce: &[u8],
-    aad: &[u8],
     text: &mut [u8],
+    aad: &[u8],
     tag: &mut [u8; 16],
 ) -> u32
     ensures keeps { (suite : Suite) (key : List ℕ) → KeepsKey kept.now suite key → let s =
@@ -190,8 +190,8 @@ pub extern "C" fn aeadkit_seal_in_place_with(
 pub extern "C" fn aeadkit_open_in_place_with(
     kept: &StoredKey,
     nonce: &[u8],
-    aad: &[u8],
     text: &mut [u8],
+    aad: &[u8],
     tag: &[u8; 16],
 ) -> u32
     ensures keeps { (suite : Suite) (key : List ℕ) → KeepsKey kept.now suite key → let s =
@@ -221,8 +221,8 @@ pub extern "C" fn aeadkit_open_in_place_with(
 pub extern "C" fn aeadkit_seal_with(
     kept: &StoredKey,
     nonce: &[u8],
-    aad: &[u8],
     text: &[u8],
+    aad: &[u8],
     sealed: &mut [u8],
 ) -> u32
     ensures keeps { (suite : Suite) (key : List ℕ) → KeepsKey kept.now suite key
@@ -242,8 +242,8 @@ pub extern "C" fn aeadkit_seal_with(
 pub extern "C" fn aeadkit_open_with(
     kept: &StoredKey,
     nonce: &[u8],
-    aad: &[u8],
     sealed: &[u8],
+    aad: &[u8],
     text: &mut [u8],
 ) -> u32
     ensures keeps { (suite : Suite) (key : List ℕ) → KeepsKey kept.now suite key

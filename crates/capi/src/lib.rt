@@ -11,14 +11,12 @@
 //! takes no suite with the number, 15 if nothing is begun or kept in the struct, or 16 if the output is not as long as the
 //! result. The header `packages/c/include/aeadkit.h` is the manual for C.
 //!
-//! A text is sealed into other memory, with the tag at the end, and opened from there. From `packages/c/examples/message.c`:
+//! In C a text of `length` bytes is sealed into other memory, with the tag at the end, and opened from there:
 //! ```c
-//! if (!done("seal", aeadkit_seal(SUITE, key, KEY, nonce, sizeof nonce, (const uint8_t *)aad, strlen(aad),
-//!                                (const uint8_t *)text, TEXT, sealed, SEALED))) return 1;
-//! if (changed < SEALED) sealed[changed] ^= 1;
-//! if (done("open", aeadkit_open(SUITE, key, KEY, nonce, sizeof nonce, (const uint8_t *)aad, strlen(aad), sealed, SEALED,
-//!                               opened, TEXT))) printf("%.*s\n", TEXT, (const char *)opened);
-//! else all = 0; /* `opened` is zeros */
+//! if (aeadkit_seal(AEADKIT_CHACHA20_POLY1305, key, 32, nonce, 12, text, length, aad, aad_length,
+//!                  sealed, length + AEADKIT_TAG_BYTES) != AEADKIT_DONE) return 1;
+//! if (aeadkit_open(AEADKIT_CHACHA20_POLY1305, key, 32, nonce, 12, sealed, length + AEADKIT_TAG_BYTES, aad, aad_length,
+//!                  opened, length) != AEADKIT_DONE) return 1;
 //! ```
 #![tactic(auto)]
 

@@ -7,7 +7,7 @@ use aead::{PassState, TwoPassState};
 #[repr(C)]
 #[derive(Clone, Copy)]
 pub struct SavedSealer {
-    // The mark of the struct that was saved.
+    // The mark of the struct that was saved, by which a state of another kind or version is refused.
     pub(crate) mark: u64,
     pub(crate) state: PassState,
 }

@@ -78,6 +78,7 @@ impl KeyNumbers {
 /// A key of a suite with the values that the suite needs and that depend on the key alone, in 808 bytes: the schedule of AES if the
 /// suite has AES, and the key of GHASH and its multiples under AES-GCM. The others are zeros. The caller in C has to see to it that a
 /// struct with the mark of a suite is as `aeadkit_key_init` left it. A struct with any other mark is refused.
+// To check a schedule or multiples, a call would have to make them again.
 #[repr(C)]
 #[derive(Clone, Copy)]
 pub struct StoredKey {
@@ -151,7 +152,7 @@ impl StoredKey {
         &self.numbers.key[..suite.key_length()]
     }
 
-    // Returns AES under the key, if the suite has AES.
+    // Returns AES under the key, if the suite has AES. It copies the schedule: a borrowed one is no faster.
     #[inline(always)]
     pub(crate) fn aes(&self, suite: Suite) -> AesKey
         requires marked { self.now.numbers.mark ≡ key_mark suite }

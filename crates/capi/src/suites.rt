@@ -13,7 +13,8 @@ pub(crate) const UNKNOWN_SUITE: u32 = 14;
 // The status of a call on a struct in which nothing is begun or kept.
 pub(crate) const NOT_BEGUN: u32 = 15;
 
-// The status of a call whose output is not as long as its result.
+// The status of a call whose output is not as long as its result. So no length that is one byte off writes past the output or
+// leaves a part of it unwritten.
 pub(crate) const OUTPUT_LENGTH: u32 = 16;
 
 // Returns the suite with a number, if there is one.

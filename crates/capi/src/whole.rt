@@ -1,5 +1,6 @@
 //! The calls for C on whole messages (RFC 8439, 2.8; SP 800-38D, 7; RFC 8452, 4 and 5), in place with the tag apart, or into
-//! another output. A call with the bytes of a key computes anew the values that depend on the key alone.
+//! another output. No input has room for the tag: a caller who forgot that room would lose 16 bytes of the text. A call with
+//! the bytes of a key computes anew the values that depend on the key alone.
 
 ghost use Rattle.std.specs.Prelude.{◌≡◌, ◌≢◌, ◌≤◌, ◌++◌, ℕ, List, length, refl, MatchResult};
 ghost use Rattle.octets.specs.declared.fault.Fault.{Fault};
@@ -295,6 +296,7 @@ pub(crate) fn open_to<K: Keys>(
     match keys.run::<Opening>(&nonce_of(nonce), aad, text, &mut tag) {
         Ok(()) => 0,
         Err(fault) => {
+            // A caller who ignores the status must not take bytes that are not authenticated for the text.
             text.fill(0);
             outcome_number(Err(fault))
         }
@@ -314,8 +316,8 @@ pub extern "C" fn aeadkit_seal_in_place(
     suite: u32,
     key: &[u8],
     nonce: &[u8],
-    aad: &[u8],
     text: &mut [u8],
+    aad: &[u8],
     tag: &mut [u8; 16],
 ) -> u32
     ensures known { (named : Suite) → suite ≡ suite_number named → let s =
@@ -343,8 +345,8 @@ pub extern "C" fn aeadkit_open_in_place(
     suite: u32,
     key: &[u8],
     nonce: &[u8],
-    aad: &[u8],
     text: &mut [u8],
+    aad: &[u8],
     tag: &[u8; 16],
 ) -> u32
     ensures known { (named : Suite) → suite ≡ suite_number named → let s =
@@ -377,8 +379,8 @@ pub extern "C" fn aeadkit_seal(
     suite: u32,
     key: &[u8],
     nonce: &[u8],
-    aad: &[u8],
     text: &[u8],
+    aad: &[u8],
     sealed: &mut [u8],
 ) -> u32
     ensures known { (named : Suite) → suite ≡ suite_number named
@@ -402,8 +404,8 @@ pub extern "C" fn aeadkit_open(
     suite: u32,
     key: &[u8],
     nonce: &[u8],
-    aad: &[u8],
     sealed: &[u8],
+    aad: &[u8],
     text: &mut [u8],
 ) -> u32
     ensures known { (named : Suite) → suite ≡ suite_number named

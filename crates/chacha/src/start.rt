@@ -48,6 +48,7 @@ impl BlocksAtOnce {
 }
 
 /// The first blocks of a key stream, from counter 0 on (RFC 8439, 2.4).
+// A type for each number of blocks, so that a short text clears and copies no more bytes than it needs.
 pub trait KeyStreamStart: Drop + Sized {
     // The bytes of the blocks.
     ghost bytes: { Self → List ℕ };

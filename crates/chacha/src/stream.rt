@@ -23,7 +23,8 @@ pub const RUN: usize = if WIDE { 512 } else { 256 };
 pub struct ChaStream {
     key: Key32,
     nonce: Nonce,
-    // The offset of the next byte in the key stream that starts at counter 0.
+    // The offset of the next byte in the key stream that starts at counter 0. If it is inside a block, that block is
+    // computed again: the state keeps no bytes of it.
     offset: u64,
     ghost within: { offset ≤ 2 ^ 38 },
 }

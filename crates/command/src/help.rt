@@ -11,15 +11,23 @@ aes-256-gcm-siv     32";
 
 pub(crate) const WRAP_KEY: &str = "The AES key: 16, 24 or 32 bytes";
 
-// The end of the help.
-pub(crate) const ABOUT_HEX: &str =
-    "HEX is an even number of hex digits of either case; an empty argument means no bytes.
-See aeadkit help SUBCOMMAND for each subcommand, and docs/COMMAND.md for the manual.
+// The beginning of the help, of the program and of each subcommand that takes a key.
+pub(crate) const KEY_IS_SEEN: &str =
+    "A key on the command line is visible to every user of the machine while the program runs, and a
+key that is typed there stays in the shell's history. Use a machine of your own, and read the key
+into a variable: stty -echo; read -r key; stty echo";
 
+// The end of the help of the program.
+pub(crate) const ABOUT_HEX: &str =
+    "See aeadkit help SUBCOMMAND for each subcommand. COMMAND.md is the manual.
+HEX is an even number of hex digits of either case; an empty argument means no bytes.
 Never use a nonce twice under one key.
 
-A fault is one line on standard error, 'aeadkit: NAME'. Each name, its status and its meaning:
-  Words          2  the arguments are not a command line of the program, or not UTF-8
+A fault is one line on standard error, 'aeadkit: NAME', and the status of the program:
+  Words          2  the arguments are not a command line of the program, or not UTF-8. Likely causes:
+                    a variable in the place of a value is not set and not quoted; an option is
+                    missing, misspelt or given twice; a value begins with - (write --text=VALUE);
+                    IN and OUT are the same word
   UnknownSuite   2  the value of --suite is not the name of a suite
   BadHex         2  a value given for HEX is not an even number of hex digits
   KeyLength      2  the key is not as long as the suite says; for key wrap, not 16, 24 or 32 bytes
@@ -36,45 +44,35 @@ A fault is one line on standard error, 'aeadkit: NAME'. Each name, its status an
   SourceChanged  3  a later reading of IN differs from an earlier one: IN was changed
                     meanwhile, or it is a pipe
   OutOfMemory    4  an allocation failed
-The faults of a vector file have status 1; aeadkit help check lists them.";
+The faults of a vector file have status 1; aeadkit help check lists them. Status 0 is success.";
 
 pub(crate) const SEAL_MORE: &str =
     "Prints the ciphertext, followed by the tag of 16 bytes, as one line of lower-case hex digits.
 HEX is an even number of hex digits of either case. --aad and --text are empty by default.
-Never use a nonce twice under one key.
+Never use a nonce twice under one key: a counter that is stored before it is used is the safest.
 
 Example:
-  aeadkit seal --suite aes-128-gcm --key 00000000000000000000000000000000 \\
-    --nonce 000000000000000000000000 --text 00000000000000000000000000000000
-prints 0388dace60b6a392f328c2b971b2fe78ab6e47d42cec13bdf53a67b21257bddf
+  aeadkit seal --suite chacha20-poly1305 --key \"$key\" --nonce \"$nonce\" --text 48656c6c6f
 
-Status: 0 success; 2 invalid arguments; 3 standard output failed; 4 out of memory.
-See also: aeadkit help open, aeadkit help seal-file, docs/COMMAND.md.";
+See also: aeadkit help open; aeadkit help seal-file; aeadkit help, for the faults.";
 
 pub(crate) const OPEN_MORE: &str =
     "Prints the text as one line of lower-case hex digits, or nothing if authentication fails.
 HEX is an even number of hex digits of either case. --aad is empty by default.
 
 Example:
-  aeadkit open --suite aes-128-gcm --key 00000000000000000000000000000000 \\
-    --nonce 000000000000000000000000 \\
-    --sealed 0388dace60b6a392f328c2b971b2fe78ab6e47d42cec13bdf53a67b21257bddf
-prints 00000000000000000000000000000000
+  aeadkit open --suite chacha20-poly1305 --key \"$key\" --nonce \"$nonce\" --sealed \"$sealed\"
 
-Status: 0 success; 1 not a valid sealing; 2 invalid arguments; 3 standard output failed; 4 out of
-memory.
-See also: aeadkit help open-file, docs/COMMAND.md.";
+See also: aeadkit help open-file; aeadkit help, for the faults.";
 
 pub(crate) const WRAP_MORE: &str = "Prints the wrapping as one line of lower-case hex digits.
 HEX is an even number of hex digits of either case.
 The text is a multiple of 8 bytes long, at least 16 (RFC 3394); with --pad at least 1 (RFC 5649).
 
 Example:
-  aeadkit wrap --key 000102030405060708090a0b0c0d0e0f --text 00112233445566778899aabbccddeeff
-prints 1fa68b0a8112b447aef34bd8fb5a7b829d3e862371d2cfe5
+  aeadkit wrap --key \"$wrapping_key\" --text \"$key\"
 
-Status: 0 success; 2 invalid arguments; 3 standard output failed; 4 out of memory.
-See also: aeadkit help unwrap, docs/COMMAND.md.";
+See also: aeadkit help unwrap; aeadkit help, for the faults.";
 
 pub(crate) const UNWRAP_MORE: &str =
     "Prints the text as one line of lower-case hex digits, or nothing if authentication fails.
@@ -82,31 +80,26 @@ HEX is an even number of hex digits of either case.
 The wrapping is a multiple of 8 bytes long, at least 24 (RFC 3394); with --pad 16 (RFC 5649).
 
 Example:
-  aeadkit unwrap --key 000102030405060708090a0b0c0d0e0f \\
-    --sealed 1fa68b0a8112b447aef34bd8fb5a7b829d3e862371d2cfe5
-prints 00112233445566778899aabbccddeeff
+  key=$(aeadkit unwrap --key \"$wrapping_key\" --sealed \"$wrapped\")
 
-Status: 0 success; 1 not a valid wrapping; 2 invalid arguments; 3 standard output failed; 4 out of
-memory.
-See also: aeadkit help wrap, docs/COMMAND.md.";
+See also: aeadkit help wrap; aeadkit help, for the faults.";
 
 pub(crate) const SEAL_FILE_MORE: &str =
     "Prints nothing. OUT will hold the ciphertext, followed by the tag of 16 bytes. It is created or
 truncated when its first byte is written. Discard it unless the status is 0.
 The sealed file does not hold the suite, the nonce or the associated data: store them beside it.
+Never use a nonce twice under one key: a counter that is stored before it is used is the safest.
 IN is read once, for AES-GCM-SIV twice; a pipe can't be read twice.
 OUT must not be another name of IN: a file of more than 64 KiB is lost, with status 3.
 To print into a file use a pipe, --out /dev/stdout | cat > FILE: /dev/stdout truncates a file.
 The status is that of cat then, unless the shell's option pipefail is set.
 HEX is an even number of hex digits of either case. --aad is empty by default.
-Never use a nonce twice under one key.
 
 Example:
-  aeadkit seal-file --suite aes-128-gcm --key 00000000000000000000000000000000 \\
-    --nonce 000000000000000000000000 --in letter.txt --out letter.sealed
+  aeadkit seal-file --suite chacha20-poly1305 --key \"$key\" --nonce \"$nonce\" \\
+    --in letter.txt --out letter.sealed
 
-Status: 0 success; 2 invalid arguments; 3 a file failed or changed; 4 out of memory.
-See also: aeadkit help open-file, docs/COMMAND.md.";
+See also: aeadkit help open-file; aeadkit help, for the faults.";
 
 pub(crate) const OPEN_FILE_MORE: &str =
     "Prints nothing. OUT will hold the text. It is created or truncated when its first byte is written,
@@ -119,12 +112,10 @@ The status is that of cat then, unless the shell's option pipefail is set.
 HEX is an even number of hex digits of either case. --aad is empty by default.
 
 Example:
-  aeadkit open-file --suite aes-128-gcm --key 00000000000000000000000000000000 \\
-    --nonce 000000000000000000000000 --in letter.sealed --out letter.txt
+  aeadkit open-file --suite chacha20-poly1305 --key \"$key\" --nonce \"$nonce\" \\
+    --in letter.sealed --out letter.txt
 
-Status: 0 success; 1 not a valid sealing; 2 invalid arguments; 3 a file failed or changed; 4 out of
-memory.
-See also: aeadkit help seal-file, docs/COMMAND.md.";
+See also: aeadkit help seal-file; aeadkit help, for the faults.";
 
 pub(crate) const CHECK_MORE: &str =
     "Prints 'records N', and then 'bad K' for each record that disagrees with its standard.
@@ -148,6 +139,5 @@ A vector file has one of these faults if it is not in the format; all but NoReco
   NoRecords     the file ends before its first record
   Unfinished    the file ends inside a record
 
-Status: 0 all agree; 1 a record is bad, or this is not a vector file; 2 invalid arguments; 3 a file
-or standard output failed; 4 out of memory.
-See also: docs/VECTOR-FILES.md.";
+The status is 0 if all agree, and 1 if a record is bad or the file is not in the format.
+See also: VECTOR-FILES.md, for the format; aeadkit help, for the other faults.";

@@ -15,6 +15,8 @@ const PENDING: usize = 65536;
 
 /// A file that is created or truncated when its first byte is given, or at the end if none was. Bytes are written once 64 KiB
 /// are pending. A failure of the system, including an interrupted call, is a failure of the device.
+// It is not std's `BufWriter`, which tries an interrupted write again and writes when it is dropped: so after a failure too the
+// file holds a prefix of the output.
 #[derive(Drop)]
 pub(crate) struct NewFile<'a, F: Storage, A: Allocator> {
     files: &'a F,

@@ -34,6 +34,7 @@ fn print<W: Write>(out: &mut W, text: &str) -> Result<u8, Failure>
     if let Err(error) = out.write_all(text.as_bytes()) {
         return Err(Failure::Fault(fault_of(&error, Fault::Write)));
     }
+    // Flushed here, so that a fault that the system finds late shows in the status.
     if let Err(error) = out.flush() {
         return Err(Failure::Fault(fault_of(&error, Fault::Write)));
     }
@@ -233,6 +234,7 @@ pub fn run<S: AsStr, F: Storage, W: Write, E: Write>(
     err: &mut E,
 ) -> u8
     // Standard output, standard error and the status are those of a request or a refusal that the words can be read as.
+    // Which one that is, is left to `clap` and to tests.
     ensures runs { Runs (F.contents files.now) (F.blank files.now) F.Output.taken
         (W.contents out.old) (W.contents out.new) (E.contents err.old) (E.contents err.new) result }
     ensures bound { result ≤ 4 }

@@ -22,7 +22,8 @@ pub trait Storage {
     /// A file that is open for writing.
     type Output: Outlet + Drop;
 
-    // The bytes that a file gives in a reading, if they are known. The readings of a request are counted from 0.
+    // The bytes that a file gives in a reading, if they are known. The readings of a request are counted from 0, so that
+    // a contract can speak of readings that differ.
     ghost contents: { Self → List ℕ → ℕ → Option (List ℕ) } = { λ _ _ _. None };
 
     // The bytes that the file at a path holds just after it was made, if they are known.

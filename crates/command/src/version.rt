@@ -1,4 +1,5 @@
 //! The version of the repository.
 
-/// The version. The packages of `packages/` take it from this line.
+/// The version. The packages take it from here.
+// A struct for C of another size makes another major version: a program has the room that it was compiled with.
 pub const VERSION: &str = "3.0.0";

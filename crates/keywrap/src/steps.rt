@@ -12,7 +12,7 @@ ghost use Rattle.keywrap.specs.Code.Places.{register};
 use aes::{AesKey, InverseKey};
 use octets::{Block, xor_into};
 
-// The default initial value (RFC 3394, 2.2.3.1).
+// The default initial value (RFC 3394, 2.2.3.1). No caller here needs another one.
 pub(crate) const INITIAL_VALUE: [u8; 8] = [0xa6; 8];
 
 // The default initial value as a number.

@@ -83,6 +83,7 @@ pub type Key32 = Bytes<KeyUse, 32>;
 /// A nonce of 12 bytes, the only length here (RFC 8439, 2.8; SP 800-38D, 8.2; RFC 8452, 4). A slice of another length is
 /// refused with `NonceLength`. A nonce must never be used twice for sealing under one key: the calls that seal say what a
 /// repeat gives away.
+// AES-GCM has other lengths too, and SP 800-38D, 5.2.1.1, recommends this one: so one type serves every suite.
 pub type Nonce = Bytes<NonceUse, 12>;
 
 /// A block of 16 bytes, the unit that AES, GHASH, POLYVAL and Poly1305 work on.

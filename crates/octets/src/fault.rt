@@ -38,6 +38,7 @@ pub enum Fault {
     SourceChanged,
 }
 
+// By hand: what `thiserror` derives has no contract, so two exchanged names would pass.
 impl fmt::Display for Fault {
     ghost use Rattle.std.specs.Prelude.{Some};
     ghost use Rattle.octets.specs.Names.{fault_name};

@@ -113,12 +113,12 @@ int main(int count, char **words) {
         for (int i = 0; i < 8; i++) nonce[3 + i] = (uint8_t)(number >> (56 - 8 * i));
         nonce[11] = (uint8_t)last;
         if (sealing) { /* the tag goes behind the text */
-            need(aeadkit_seal_in_place_with(&data_key, nonce, sizeof nonce, aad, aad_length, bytes, length, bytes + length));
+            need(aeadkit_seal_in_place_with(&data_key, nonce, sizeof nonce, bytes, length, aad, aad_length, bytes + length));
             give(bytes, length + TAG);
         } else {
             if (length < TAG) stop(1, "the backup was cut");
             length -= TAG;
-            need(aeadkit_open_in_place_with(&data_key, nonce, sizeof nonce, aad, aad_length, bytes, length, bytes + length));
+            need(aeadkit_open_in_place_with(&data_key, nonce, sizeof nonce, bytes, length, aad, aad_length, bytes + length));
             give(bytes, length);
         }
         bytes[0] = next;

@@ -31,22 +31,23 @@ int main(int count, char **words) {
 
     /* To other memory. The tag is the end of the sealing. */
     nonce[0] = 1; /* the number of the message: it never comes twice under one key */
-    if (!done("seal", aeadkit_seal(SUITE, key, KEY, nonce, sizeof nonce, (const uint8_t *)aad, strlen(aad),
-                                   (const uint8_t *)text, TEXT, sealed, SEALED))) return 1;
+    if (!done("seal", aeadkit_seal(SUITE, key, KEY, nonce, sizeof nonce, (const uint8_t *)text, TEXT,
+                                   (const uint8_t *)aad, strlen(aad), sealed, SEALED))) return 1;
     if (changed < SEALED) sealed[changed] ^= 1;
-    if (done("open", aeadkit_open(SUITE, key, KEY, nonce, sizeof nonce, (const uint8_t *)aad, strlen(aad), sealed, SEALED,
-                                  opened, TEXT))) printf("%.*s\n", TEXT, (const char *)opened);
+    if (done("open", aeadkit_open(SUITE, key, KEY, nonce, sizeof nonce, sealed, SEALED,
+                                  (const uint8_t *)aad, strlen(aad), opened, TEXT))) printf("%.*s\n", TEXT, (const char *)opened);
     else all = 0; /* `opened` is zeros */
 
     /* In place. The tag is apart, and is sent behind the ciphertext. */
     nonce[0] = 2;
     memcpy(place, text, TEXT);
-    if (!done("seal in place", aeadkit_seal_in_place(SUITE, key, KEY, nonce, sizeof nonce, (const uint8_t *)aad, strlen(aad),
-                                                     place, TEXT, tag))) return 1;
+    if (!done("seal in place", aeadkit_seal_in_place(SUITE, key, KEY, nonce, sizeof nonce, place, TEXT,
+                                                     (const uint8_t *)aad, strlen(aad), tag))) return 1;
     if (changed < TEXT) place[changed] ^= 1;
     else if (changed < SEALED) tag[changed - TEXT] ^= 1;
-    if (done("open in place", aeadkit_open_in_place(SUITE, key, KEY, nonce, sizeof nonce, (const uint8_t *)aad, strlen(aad),
-                                                    place, TEXT, tag))) printf("%.*s\n", TEXT, (const char *)place);
+    if (done("open in place", aeadkit_open_in_place(SUITE, key, KEY, nonce, sizeof nonce, place, TEXT,
+                                                    (const uint8_t *)aad, strlen(aad), tag)))
+        printf("%.*s\n", TEXT, (const char *)place);
     else all = 0; /* `place` is still the ciphertext */
     explicit_bzero(key, KEY);
     return ferror(stdout) || fclose(stdout) || !all; /* a text that was not written does not count */

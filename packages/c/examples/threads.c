@@ -23,9 +23,9 @@ static void *work(void *first) {
         uint8_t nonce[AEADKIT_NONCE_BYTES] = {0};
         for (int i = 0; i < 8; i++) nonce[i] = (uint8_t)(number >> 8 * i);
         if (opening)
-            r->status = aeadkit_open_in_place_with(&shared, nonce, sizeof nonce, NULL, 0, r->text, TEXT, r->tag);
+            r->status = aeadkit_open_in_place_with(&shared, nonce, sizeof nonce, r->text, TEXT, NULL, 0, r->tag);
         else
-            r->status = aeadkit_seal_in_place_with(&shared, nonce, sizeof nonce, NULL, 0, r->text, TEXT, r->tag);
+            r->status = aeadkit_seal_in_place_with(&shared, nonce, sizeof nonce, r->text, TEXT, NULL, 0, r->tag);
     }
     return NULL;
 }

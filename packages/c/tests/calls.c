@@ -38,18 +38,18 @@ static void sealing(void) {
                                       0x36, 0x7f, 0x1d, 0x57, 0xa4, 0xe7, 0x45, 0x5a};
     static const uint8_t zero[16] = {0};
     uint8_t sealed[32], text[16], tag[16];
-    is("seal", aeadkit_seal(AEADKIT_AES_128_GCM, zero, 16, zero, 12, NULL, 0, zero, 16, sealed, 32) == AEADKIT_DONE);
+    is("seal", aeadkit_seal(AEADKIT_AES_128_GCM, zero, 16, zero, 12, zero, 16, NULL, 0, sealed, 32) == AEADKIT_DONE);
     is("the sealing", !memcmp(sealed, want, 32));
     memset(text, 0x5a, 16);
-    is("open", aeadkit_open(AEADKIT_AES_128_GCM, zero, 16, zero, 12, NULL, 0, sealed, 32, text, 16) == AEADKIT_DONE);
+    is("open", aeadkit_open(AEADKIT_AES_128_GCM, zero, 16, zero, 12, sealed, 32, NULL, 0, text, 16) == AEADKIT_DONE);
     is("the text", !memcmp(text, zero, 16));
-    is("seal in place", aeadkit_seal_in_place(AEADKIT_AES_128_GCM, zero, 16, zero, 12, NULL, 0, text, 16, tag) == AEADKIT_DONE);
+    is("seal in place", aeadkit_seal_in_place(AEADKIT_AES_128_GCM, zero, 16, zero, 12, text, 16, NULL, 0, tag) == AEADKIT_DONE);
     is("the sealing in place", !memcmp(text, want, 16) && !memcmp(tag, want + 16, 16));
-    is("open in place", aeadkit_open_in_place(AEADKIT_AES_128_GCM, zero, 16, zero, 12, NULL, 0, text, 16, tag) == AEADKIT_DONE);
+    is("open in place", aeadkit_open_in_place(AEADKIT_AES_128_GCM, zero, 16, zero, 12, text, 16, NULL, 0, tag) == AEADKIT_DONE);
     is("the text in place", !memcmp(text, zero, 16) && !memcmp(tag, want + 16, 16));
     is("seal nothing", aeadkit_seal(AEADKIT_AES_128_GCM, zero, 16, zero, 12, NULL, 0, NULL, 0, sealed, 16) == AEADKIT_DONE);
     is("the tag of nothing", !memcmp(sealed, empty, 16));
-    is("open nothing", aeadkit_open(AEADKIT_AES_128_GCM, zero, 16, zero, 12, NULL, 0, empty, 16, NULL, 0) == AEADKIT_DONE);
+    is("open nothing", aeadkit_open(AEADKIT_AES_128_GCM, zero, 16, zero, 12, empty, 16, NULL, 0, NULL, 0) == AEADKIT_DONE);
 }
 
 /* RFC 3394, 4.1, and RFC 5649, 6. */
@@ -126,7 +126,7 @@ static void with_faults(enum call call, int with, uint32_t suite, size_t length,
     uint32_t status, wanted = AEADKIT_DONE;
     memset(from, 0x61, sizeof from);
     memset(to, 0xa5, sizeof to);
-    is("the sealing to open", aeadkit_seal_in_place(suite, zeros, key_length, zeros, 12, zeros, 5, from, length, tag) == AEADKIT_DONE);
+    is("the sealing to open", aeadkit_seal_in_place(suite, zeros, key_length, zeros, 12, from, length, zeros, 5, tag) == AEADKIT_DONE);
     if (call == SEAL || call == SEAL_IN_PLACE) memset(from, 0x61, sizeof from);
     if (call == OPEN) memcpy(from + length, tag, 16);
     if (faults & 1u << TAG) (call == OPEN ? from + length : tag)[3] ^= 1;
@@ -145,17 +145,17 @@ static void with_faults(enum call call, int with, uint32_t suite, size_t length,
     }
     if (faults & 1u << SHORT) text = from, from_length = 15;
     if (call == SEAL_IN_PLACE)
-        status = with ? aeadkit_seal_in_place_with(&kept, zeros, nonce_length, aad, aad_length, text, from_length, tag)
-                      : aeadkit_seal_in_place(suite, zeros, key_length, zeros, nonce_length, aad, aad_length, text, from_length, tag);
+        status = with ? aeadkit_seal_in_place_with(&kept, zeros, nonce_length, text, from_length, aad, aad_length, tag)
+                      : aeadkit_seal_in_place(suite, zeros, key_length, zeros, nonce_length, text, from_length, aad, aad_length, tag);
     else if (call == OPEN_IN_PLACE)
-        status = with ? aeadkit_open_in_place_with(&kept, zeros, nonce_length, aad, aad_length, text, from_length, tag)
-                      : aeadkit_open_in_place(suite, zeros, key_length, zeros, nonce_length, aad, aad_length, text, from_length, tag);
+        status = with ? aeadkit_open_in_place_with(&kept, zeros, nonce_length, text, from_length, aad, aad_length, tag)
+                      : aeadkit_open_in_place(suite, zeros, key_length, zeros, nonce_length, text, from_length, aad, aad_length, tag);
     else if (call == SEAL)
-        status = with ? aeadkit_seal_with(&kept, zeros, nonce_length, aad, aad_length, text, from_length, out, to_length)
-                      : aeadkit_seal(suite, zeros, key_length, zeros, nonce_length, aad, aad_length, text, from_length, out, to_length);
+        status = with ? aeadkit_seal_with(&kept, zeros, nonce_length, text, from_length, aad, aad_length, out, to_length)
+                      : aeadkit_seal(suite, zeros, key_length, zeros, nonce_length, text, from_length, aad, aad_length, out, to_length);
     else
-        status = with ? aeadkit_open_with(&kept, zeros, nonce_length, aad, aad_length, text, from_length, out, to_length)
-                      : aeadkit_open(suite, zeros, key_length, zeros, nonce_length, aad, aad_length, text, from_length, out, to_length);
+        status = with ? aeadkit_open_with(&kept, zeros, nonce_length, text, from_length, aad, aad_length, out, to_length)
+                      : aeadkit_open(suite, zeros, key_length, zeros, nonce_length, text, from_length, aad, aad_length, out, to_length);
     for (int fault = FAULTS - 1; fault >= 0; fault--)
         if (faults & 1u << fault) wanted = statuses[fault];
     if (status != wanted) {
@@ -204,15 +204,15 @@ static void output_lengths(void) {
                 is("key_init", aeadkit_key_init(&kept, suite, zeros, k) == AEADKIT_DONE);
                 for (int with = 0; with < 2; with++) {
                     memset(out, 0xa5, sizeof out);
-                    uint32_t status = with ? aeadkit_seal_with(&kept, zeros, 12, NULL, 0, text, length, out, room)
-                                           : aeadkit_seal(suite, zeros, k, zeros, 12, NULL, 0, text, length, out, room);
+                    uint32_t status = with ? aeadkit_seal_with(&kept, zeros, 12, text, length, NULL, 0, out, room)
+                                           : aeadkit_seal(suite, zeros, k, zeros, 12, text, length, NULL, 0, out, room);
                     is("the status of seal by its output", status == (room == length + 16 ? AEADKIT_DONE : AEADKIT_OUTPUT_LENGTH));
                     if (status == AEADKIT_DONE) is("behind the sealing", all(out + room, sizeof out - room, 0xa5));
                     else is("nothing is sealed", all(out, sizeof out, 0xa5));
-                    is("seal", aeadkit_seal(suite, zeros, k, zeros, 12, NULL, 0, text, length, sealed, length + 16) == AEADKIT_DONE);
+                    is("seal", aeadkit_seal(suite, zeros, k, zeros, 12, text, length, NULL, 0, sealed, length + 16) == AEADKIT_DONE);
                     memset(out, 0xa5, sizeof out);
-                    status = with ? aeadkit_open_with(&kept, zeros, 12, NULL, 0, sealed, length + 16, out, room)
-                                  : aeadkit_open(suite, zeros, k, zeros, 12, NULL, 0, sealed, length + 16, out, room);
+                    status = with ? aeadkit_open_with(&kept, zeros, 12, sealed, length + 16, NULL, 0, out, room)
+                                  : aeadkit_open(suite, zeros, k, zeros, 12, sealed, length + 16, NULL, 0, out, room);
                     is("the status of open by its output", status == (room == length ? AEADKIT_DONE : AEADKIT_OUTPUT_LENGTH));
                     if (status == AEADKIT_DONE) is("the opened text", all(out, room, 0) && all(out + room, sizeof out - room, 0xa5));
                     else is("nothing is opened", all(out, sizeof out, 0xa5));
@@ -312,12 +312,12 @@ static void nothing(void) {
         is("seal nothing in place", aeadkit_seal_in_place(suite, zeros, k, zeros, 12, NULL, 0, NULL, 0, tag) == AEADKIT_DONE);
         is("open nothing in place", aeadkit_open_in_place(suite, zeros, k, zeros, 12, NULL, 0, NULL, 0, tag) == AEADKIT_DONE);
         is("seal nothing", aeadkit_seal(suite, zeros, k, zeros, 12, NULL, 0, NULL, 0, sealed, 16) == AEADKIT_DONE);
-        is("open nothing", aeadkit_open(suite, zeros, k, zeros, 12, NULL, 0, sealed, 16, NULL, 0) == AEADKIT_DONE);
+        is("open nothing", aeadkit_open(suite, zeros, k, zeros, 12, sealed, 16, NULL, 0, NULL, 0) == AEADKIT_DONE);
         is("its tag", !memcmp(sealed, tag, 16));
         is("seal nothing in place with", aeadkit_seal_in_place_with(&kept, zeros, 12, NULL, 0, NULL, 0, tag) == AEADKIT_DONE);
         is("open nothing in place with", aeadkit_open_in_place_with(&kept, zeros, 12, NULL, 0, NULL, 0, tag) == AEADKIT_DONE);
         is("seal nothing with", aeadkit_seal_with(&kept, zeros, 12, NULL, 0, NULL, 0, sealed, 16) == AEADKIT_DONE);
-        is("open nothing with", aeadkit_open_with(&kept, zeros, 12, NULL, 0, sealed, 16, NULL, 0) == AEADKIT_DONE);
+        is("open nothing with", aeadkit_open_with(&kept, zeros, 12, sealed, 16, NULL, 0, NULL, 0) == AEADKIT_DONE);
         is("no nonce with a kept key", aeadkit_seal_in_place_with(&kept, NULL, 0, NULL, 0, NULL, 0, tag) == AEADKIT_NONCE_LENGTH
                                            && aeadkit_open_in_place_with(&kept, NULL, 0, NULL, 0, NULL, 0, tag) == AEADKIT_NONCE_LENGTH
                                            && aeadkit_seal_with(&kept, NULL, 0, NULL, 0, NULL, 0, NULL, 0) == AEADKIT_NONCE_LENGTH

@@ -55,7 +55,7 @@ static struct message message_of(long number, uint32_t suite) {
     random_bytes(m.nonce, 12);
     random_bytes(m.aad, m.aad_length);
     random_bytes(text, m.length);
-    want(aeadkit_seal(m.suite, m.key, m.key_length, m.nonce, 12, m.aad, m.aad_length, text, m.length, whole, m.length + 16)
+    want(aeadkit_seal(m.suite, m.key, m.key_length, m.nonce, 12, text, m.length, m.aad, m.aad_length, whole, m.length + 16)
              == AEADKIT_DONE, "seal", number);
     return m;
 }
@@ -174,7 +174,7 @@ static void open_in_pieces(long number) {
     want(aeadkit_opener_finish(&opener) == AEADKIT_NOT_BEGUN, "finished before the check", number);
     want(!memcmp(pieces, whole, length) && !memcmp(&opener, &moved, sizeof opener), "changed before the check", number);
     uint32_t status = aeadkit_opener_begin_second(&opener);
-    want(status == aeadkit_open(m.suite, m.key, m.key_length, m.nonce, 12, m.aad, m.aad_length, whole, length + 16, opened, length),
+    want(status == aeadkit_open(m.suite, m.key, m.key_length, m.nonce, 12, whole, length + 16, m.aad, m.aad_length, opened, length),
          "another status of begin_second", number);
     if (status == AEADKIT_TAG_MISMATCH) want(all(opened, length, 0), "not zeros where nothing was opened", number);
     want((way == CHANGED) == (status == AEADKIT_TAG_MISMATCH), "a changed bit", number);
@@ -488,27 +488,27 @@ static void by_a_kept_key(long number) {
     begun_by_a_kept_key(&held.kept, &m, number);
     size_t length = m.length;
     uint8_t tag[16];
-    want(aeadkit_seal_with(&held.kept, m.nonce, 12, m.aad, m.aad_length, text, length, pieces, length + 16) == AEADKIT_DONE,
+    want(aeadkit_seal_with(&held.kept, m.nonce, 12, text, length, m.aad, m.aad_length, pieces, length + 16) == AEADKIT_DONE,
          "seal_with", number);
     want(!memcmp(pieces, whole, length + 16), "another sealing by a kept key", number);
-    want(aeadkit_open_with(&held.kept, m.nonce, 12, m.aad, m.aad_length, pieces, length + 16, opened, length) == AEADKIT_DONE,
+    want(aeadkit_open_with(&held.kept, m.nonce, 12, pieces, length + 16, m.aad, m.aad_length, opened, length) == AEADKIT_DONE,
          "open_with", number);
     want(!memcmp(opened, text, length), "another text by a kept key", number);
-    want(aeadkit_seal_in_place_with(&held.kept, m.nonce, 12, m.aad, m.aad_length, opened, length, tag) == AEADKIT_DONE,
+    want(aeadkit_seal_in_place_with(&held.kept, m.nonce, 12, opened, length, m.aad, m.aad_length, tag) == AEADKIT_DONE,
          "seal_in_place_with", number);
     want(!memcmp(opened, whole, length) && !memcmp(tag, whole + length, 16), "another sealing in place by a kept key", number);
-    want(aeadkit_open_in_place_with(&held.kept, m.nonce, 12, m.aad, m.aad_length, opened, length, tag) == AEADKIT_DONE,
+    want(aeadkit_open_in_place_with(&held.kept, m.nonce, 12, opened, length, m.aad, m.aad_length, tag) == AEADKIT_DONE,
          "open_in_place_with", number);
     want(!memcmp(opened, text, length) && !memcmp(tag, whole + length, 16), "another text in place by a kept key", number);
     pieces[random_word() % (length + 16)] ^= 1;
     memcpy(whole, pieces, length + 16);
-    want(aeadkit_open_with(&held.kept, m.nonce, 12, m.aad, m.aad_length, pieces, length + 16, opened, length)
+    want(aeadkit_open_with(&held.kept, m.nonce, 12, pieces, length + 16, m.aad, m.aad_length, opened, length)
              == AEADKIT_TAG_MISMATCH, "a changed sealing opened by a kept key", number);
     want(all(opened, length, 0) && !memcmp(pieces, whole, length + 16), "what a mismatch by a kept key leaves", number);
-    want(aeadkit_open_in_place_with(&held.kept, m.nonce, 12, m.aad, m.aad_length, pieces, length, pieces + length)
+    want(aeadkit_open_in_place_with(&held.kept, m.nonce, 12, pieces, length, m.aad, m.aad_length, pieces + length)
              == AEADKIT_TAG_MISMATCH, "a changed sealing opened in place by a kept key", number);
     want(!memcmp(pieces, whole, length + 16), "changed at a mismatch in place by a kept key", number);
-    want(aeadkit_seal_with(&held.kept, m.nonce, 11, NULL, 0, pieces, 0, pieces, 16) == AEADKIT_NONCE_LENGTH, "a nonce of 11 bytes",
+    want(aeadkit_seal_with(&held.kept, m.nonce, 11, pieces, 0, NULL, 0, pieces, 16) == AEADKIT_NONCE_LENGTH, "a nonce of 11 bytes",
          number);
     want(memcmp(&kept, &held.kept, sizeof kept) == 0, "a kept key was written", number);
     want(all(held.before, 16, 0xa5) && all(held.after, 16, 0xa5), "written beside a kept key", number);
@@ -523,25 +523,25 @@ static void kept_key_rubbish(long number) {
     random_bytes(bytes, 64);
     memcpy(before, bytes, 64);
     random_bytes((uint8_t *)&kept, sizeof kept);
-    want(aeadkit_seal_in_place_with(&kept, nonce, 12, NULL, 0, bytes, 48, bytes + 48) == AEADKIT_NOT_BEGUN, "sealed by no key",
+    want(aeadkit_seal_in_place_with(&kept, nonce, 12, bytes, 48, NULL, 0, bytes + 48) == AEADKIT_NOT_BEGUN, "sealed by no key",
          number);
-    want(aeadkit_open_in_place_with(&kept, nonce, 12, NULL, 0, bytes, 48, bytes + 48) == AEADKIT_NOT_BEGUN, "opened by no key",
+    want(aeadkit_open_in_place_with(&kept, nonce, 12, bytes, 48, NULL, 0, bytes + 48) == AEADKIT_NOT_BEGUN, "opened by no key",
          number);
-    want(aeadkit_seal_with(&kept, nonce, 12, NULL, 0, bytes, 24, bytes + 24, 40) == AEADKIT_NOT_BEGUN, "sealed elsewhere by no key",
+    want(aeadkit_seal_with(&kept, nonce, 12, bytes, 24, NULL, 0, bytes + 24, 40) == AEADKIT_NOT_BEGUN, "sealed elsewhere by no key",
          number);
-    want(aeadkit_open_with(&kept, nonce, 12, NULL, 0, bytes, 40, bytes + 40, 24) == AEADKIT_NOT_BEGUN, "opened elsewhere by no key",
+    want(aeadkit_open_with(&kept, nonce, 12, bytes, 40, NULL, 0, bytes + 40, 24) == AEADKIT_NOT_BEGUN, "opened elsewhere by no key",
          number);
     want(aeadkit_key_init(&kept, 7, key, 32) == AEADKIT_UNKNOWN_SUITE, "a key of suite 7", number);
     want(aeadkit_key_init(&kept, 1 + (uint32_t)(number % 6), key, 33) == AEADKIT_KEY_LENGTH, "a key of 33 bytes", number);
     want(all((uint8_t *)&kept, sizeof kept, 0), "not zeros after a refused key", number);
-    want(aeadkit_seal_in_place_with(&kept, nonce, 12, NULL, 0, bytes, 48, bytes + 48) == AEADKIT_NOT_BEGUN,
+    want(aeadkit_seal_in_place_with(&kept, nonce, 12, bytes, 48, NULL, 0, bytes + 48) == AEADKIT_NOT_BEGUN,
          "sealed by a refused key", number);
     want(memcmp(bytes, before, 64) == 0, "changed by no key", number);
     uint32_t suite = 1 + (uint32_t)(number % 6);
     want(aeadkit_key_init(&kept, suite, key, suite == 2 || suite == 5 ? 16 : suite == 3 ? 24 : 32) == AEADKIT_DONE, "key_init",
          number);
     random_bytes((uint8_t *)&kept + 8, sizeof kept - 8);
-    want(aeadkit_seal_in_place_with(&kept, nonce, 12, NULL, 0, bytes, 48, bytes + 48) == AEADKIT_DONE, "sealed by a spoilt key",
+    want(aeadkit_seal_in_place_with(&kept, nonce, 12, bytes, 48, NULL, 0, bytes + 48) == AEADKIT_DONE, "sealed by a spoilt key",
          number);
 }
 

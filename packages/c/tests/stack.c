@@ -78,20 +78,20 @@ static void whole(uint32_t suite, size_t n) {
     TAKES(0, aeadkit_key_init(&kept, suite, key, k));
     for (uint8_t changed = 0; changed < 2; changed++) {
         uint32_t opens = changed ? AEADKIT_TAG_MISMATCH : AEADKIT_DONE;
-        TAKES(0, aeadkit_seal_in_place(suite, key, k, nonce, 12, aad, aad_length, bytes, n, tag));
+        TAKES(0, aeadkit_seal_in_place(suite, key, k, nonce, 12, bytes, n, aad, aad_length, tag));
         tag[0] ^= changed;
-        TAKES(opens, aeadkit_open_in_place(suite, key, k, nonce, 12, aad, aad_length, bytes, n, tag));
-        TAKES(0, aeadkit_seal_in_place_with(&kept, nonce, 12, aad, aad_length, bytes, n, tag));
+        TAKES(opens, aeadkit_open_in_place(suite, key, k, nonce, 12, bytes, n, aad, aad_length, tag));
+        TAKES(0, aeadkit_seal_in_place_with(&kept, nonce, 12, bytes, n, aad, aad_length, tag));
         tag[0] ^= changed;
-        TAKES(opens, aeadkit_open_in_place_with(&kept, nonce, 12, aad, aad_length, bytes, n, tag));
-        TAKES(0, aeadkit_seal(suite, key, k, nonce, 12, aad, aad_length, bytes, n, others, n + 16));
+        TAKES(opens, aeadkit_open_in_place_with(&kept, nonce, 12, bytes, n, aad, aad_length, tag));
+        TAKES(0, aeadkit_seal(suite, key, k, nonce, 12, bytes, n, aad, aad_length, others, n + 16));
         others[n] ^= changed;
-        TAKES(opens, aeadkit_open(suite, key, k, nonce, 12, aad, aad_length, others, n + 16, bytes, n));
-        TAKES(0, aeadkit_seal_with(&kept, nonce, 12, aad, aad_length, bytes, n, others, n + 16));
+        TAKES(opens, aeadkit_open(suite, key, k, nonce, 12, others, n + 16, aad, aad_length, bytes, n));
+        TAKES(0, aeadkit_seal_with(&kept, nonce, 12, bytes, n, aad, aad_length, others, n + 16));
         others[n] ^= changed;
-        TAKES(opens, aeadkit_open_with(&kept, nonce, 12, aad, aad_length, others, n + 16, bytes, n));
+        TAKES(opens, aeadkit_open_with(&kept, nonce, 12, others, n + 16, aad, aad_length, bytes, n));
     }
-    TAKES(AEADKIT_OUTPUT_LENGTH, aeadkit_seal(suite, key, k, nonce, 12, aad, aad_length, bytes, n, others, n + 15));
+    TAKES(AEADKIT_OUTPUT_LENGTH, aeadkit_seal(suite, key, k, nonce, 12, bytes, n, aad, aad_length, others, n + 15));
 }
 
 static void wrapped(size_t k, size_t length) {
@@ -140,7 +140,7 @@ static void sealed(uint32_t suite, size_t lead, size_t n) {
 static void opened(uint32_t suite, size_t lead, size_t n) {
     size_t k = key_lengths[suite];
     TAKES(0, aeadkit_key_init(&kept, suite, key, k));
-    TAKES(0, aeadkit_seal(suite, key, k, nonce, 12, aad, aad_length, bytes, n, others, n + 16));
+    TAKES(0, aeadkit_seal(suite, key, k, nonce, 12, bytes, n, aad, aad_length, others, n + 16));
     for (int changed = 0; changed < 3; changed++) {
         memcpy(bytes, others, n);
         memcpy(tag, others + n, 16);

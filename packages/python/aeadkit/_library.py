@@ -1,132 +1,104 @@
-"""Finds libaeadkit.so, checks that it is the library that this package was written for, and declares its functions."""
+"""Finds libaeadkit.so, checks its version and the sizes of its structs, and declares its functions."""
+
+from __future__ import annotations
 
 import ctypes
-import io
 import os
-from typing import Any, Callable, NamedTuple, Set, Type
+from typing import Any, Callable, NamedTuple
 
-_MAJOR = 3
-_NAME = f"libaeadkit.so.{_MAJOR}"
+_V3_FLAGS = {"avx", "avx2", "bmi1", "bmi2", "f16c", "fma", "abm", "movbe"}
 
 
-def _has_avx2() -> bool:
-    """Whether the processor has all of x86-64-v3."""
+def _runs_v3() -> bool:
+    """Whether the processor has the instructions of x86-64-v3, such as AVX2."""
     try:
-        with io.open("/proc/cpuinfo") as file:
-            flags: Set[str] = next((set(line.split()) for line in file if line.startswith("flags")), set())
+        with open("/proc/cpuinfo") as file:
+            return any(line.startswith("flags") and _V3_FLAGS <= set(line.split()) for line in file)
     except OSError:
         return False
-    return {"avx", "avx2", "bmi1", "bmi2", "f16c", "fma", "abm", "movbe"} <= flags
 
 
 def _find() -> str:
-    """The library's file, or the name that the system finds it by."""
-    if os.environ.get("AEADKIT"):
-        return os.environ["AEADKIT"]
-    folder = os.path.join(os.path.dirname(os.path.abspath(__file__)), "lib")
-    fast = os.path.join(folder, "x86-64-v3", _NAME)
-    if os.path.exists(fast) and _has_avx2():
-        return fast
-    base = os.path.join(folder, _NAME)
-    return base if os.path.exists(base) else _NAME
-
-
-def _load() -> ctypes.CDLL:
-    try:
-        return ctypes.CDLL(_file)
-    except OSError as error:
-        raise ImportError(f"{_file} cannot be loaded: {error}", path=_file) from None
+    """The library that was installed with this package, or else the one under AEADKIT_PREFIX."""
+    own = os.path.join(os.path.dirname(os.path.abspath(__file__)), "lib")
+    files = [os.path.join(own, "x86-64-v3", "libaeadkit.so")] if _runs_v3() else []
+    files += [os.path.join(own, "libaeadkit.so")]
+    if prefix := os.environ.get("AEADKIT_PREFIX"):
+        files += [os.path.join(prefix, "lib", "libaeadkit.so")]
+    for file in files:
+        if os.path.exists(file):
+            return file
+    raise ImportError(f"there is no {files[-1]}: install the wheel of aeadkit, or set AEADKIT_PREFIX to a prefix "
+                      "that has lib/libaeadkit.so")
 
 
 _file = _find()
-_library = _load()
-
-
-def _unfit(reason: str) -> ImportError:
-    return ImportError(f"{_file} does not fit this package, which needs {_NAME}: {reason}", path=_file)
+try:
+    _library = ctypes.CDLL(_file)
+    _number: int = _library.aeadkit_version()
+except (OSError, AttributeError) as error:
+    raise ImportError(f"{_file} is not libaeadkit 3: {error}", path=_file) from None
+VERSION = f"{_number // 10000}.{_number // 100 % 100}.{_number % 100}"
+if _number // 10000 != 3:
+    raise ImportError(f"{_file} has the version {VERSION}, and this package needs version 3", path=_file)
 
 
 def _declare(name: str, *arguments: Any, result: Any = ctypes.c_uint32) -> Callable[..., int]:
-    """A function of the library. Most return a status."""
-    try:
-        function = getattr(_library, name)
-    except AttributeError:
-        raise _unfit(f"it has no function {name}") from None
+    """A function of the library. Most return a status, which is 0 for success."""
+    function = getattr(_library, name)
     function.argtypes, function.restype = arguments, result
     declared: Callable[..., int] = function
     return declared
 
 
-def _version() -> str:
-    """The version of the library, if its major version is the one that this package needs."""
-    number = _declare("aeadkit_version")()
-    version = f"{number // 10000}.{number // 100 % 100}.{number % 100}"
-    if number // 10000 != _MAJOR:
-        raise _unfit(f"its version is {version}")
-    return version
-
-
 class Kind(NamedTuple):
-    """A kind of struct of the library: its memory, and the function that leaves zeros in it."""
+    """A kind of struct: its memory, and the function that leaves zeros in it."""
 
-    memory: "Type[ctypes.Array[ctypes.c_uint64]]"
-    wipe: Callable[..., object]
+    memory: Any
+    wipe: Callable[..., int]
 
 
 def _kind(name: str, size: int) -> Kind:
-    """A kind of struct, whose size is the one in aeadkit.h. The library must have it too."""
+    """A kind of struct of this size, which is the one in aeadkit.h."""
     found = _declare(f"aeadkit_{name}_size", result=ctypes.c_size_t)()
     if found != size:
-        raise _unfit(f"its struct aeadkit_{name} has {found} bytes, not {size}")
+        raise ImportError(f"{_file} has a struct aeadkit_{name} of {found} bytes, and this package needs {size}",
+                          path=_file)
     return Kind(ctypes.c_uint64 * (size // 8), _declare(f"aeadkit_{name}_wipe", ctypes.c_void_p, result=None))
 
 
-VERSION = _version()
-SEALER = _kind("sealer", 144)
-OPENER = _kind("opener", 192)
-SIV = _kind("siv", 192)
-KEY = _kind("key", 808)
+KEY, SEALER, OPENER, SIV = _kind("key", 808), _kind("sealer", 144), _kind("opener", 192), _kind("siv", 192)
 
-_suite = ctypes.c_uint32
-_struct = ctypes.c_void_p
-_input = (ctypes.c_char_p, ctypes.c_size_t)
-_output = (ctypes.c_char_p, ctypes.c_size_t)
+_suite, _struct, _tag = ctypes.c_uint32, ctypes.c_void_p, ctypes.c_char_p
+_in = _out = (ctypes.c_char_p, ctypes.c_size_t)
 _changed = (ctypes.c_void_p, ctypes.c_size_t)
-_tag = ctypes.c_char_p
-_setting = (_suite, *_input, *_input, *_input)
-_setting_with = (_struct, *_input, *_input)
+_nonce = _text = _aad = _in
 
-aeadkit_seal = _declare("aeadkit_seal", *_setting, *_input, *_output)
-aeadkit_open = _declare("aeadkit_open", *_setting, *_input, *_output)
-aeadkit_seal_in_place = _declare("aeadkit_seal_in_place", *_setting, *_changed, _tag)
-aeadkit_open_in_place = _declare("aeadkit_open_in_place", *_setting, *_changed, _tag)
-aeadkit_seal_with = _declare("aeadkit_seal_with", *_setting_with, *_input, *_output)
-aeadkit_open_with = _declare("aeadkit_open_with", *_setting_with, *_input, *_output)
-aeadkit_seal_in_place_with = _declare("aeadkit_seal_in_place_with", *_setting_with, *_changed, _tag)
-aeadkit_open_in_place_with = _declare("aeadkit_open_in_place_with", *_setting_with, *_changed, _tag)
-aeadkit_wrap = _declare("aeadkit_wrap", *_input, *_input, *_output)
-aeadkit_unwrap = _declare("aeadkit_unwrap", *_input, *_input, *_output)
-aeadkit_wrap_padded = _declare("aeadkit_wrap_padded", *_input, *_input, *_output)
-aeadkit_unwrap_padded = _declare("aeadkit_unwrap_padded", *_input, *_input, *_output, ctypes.POINTER(ctypes.c_size_t))
-aeadkit_key_init = _declare("aeadkit_key_init", _struct, _suite, *_input)
-aeadkit_sealer_init = _declare("aeadkit_sealer_init", _struct, *_setting)
-aeadkit_sealer_init_with = _declare("aeadkit_sealer_init_with", _struct, *_setting_with)
+aeadkit_key_init = _declare("aeadkit_key_init", _struct, _suite, *_in)
+aeadkit_seal_with = _declare("aeadkit_seal_with", _struct, *_nonce, *_text, *_aad, *_out)
+aeadkit_open_with = _declare("aeadkit_open_with", _struct, *_nonce, *_text, *_aad, *_out)
+aeadkit_seal_in_place_with = _declare("aeadkit_seal_in_place_with", _struct, *_nonce, *_changed, *_aad, _tag)
+aeadkit_open_in_place_with = _declare("aeadkit_open_in_place_with", _struct, *_nonce, *_changed, *_aad, _tag)
+aeadkit_sealer_init = _declare("aeadkit_sealer_init", _struct, _suite, *_in, *_nonce, *_aad)
+aeadkit_sealer_init_with = _declare("aeadkit_sealer_init_with", _struct, _struct, *_nonce, *_aad)
 aeadkit_sealer_update = _declare("aeadkit_sealer_update", _struct, *_changed)
 aeadkit_sealer_finish = _declare("aeadkit_sealer_finish", _struct, _tag)
-aeadkit_opener_init = _declare("aeadkit_opener_init", _struct, *_setting, _tag)
-aeadkit_opener_init_with = _declare("aeadkit_opener_init_with", _struct, *_setting_with, _tag)
-aeadkit_opener_check = _declare("aeadkit_opener_check", _struct, *_input)
+aeadkit_opener_init = _declare("aeadkit_opener_init", _struct, _suite, *_in, *_nonce, *_aad, _tag)
+aeadkit_opener_init_with = _declare("aeadkit_opener_init_with", _struct, _struct, *_nonce, *_aad, _tag)
+aeadkit_opener_check = _declare("aeadkit_opener_check", _struct, *_in)
 aeadkit_opener_begin_second = _declare("aeadkit_opener_begin_second", _struct)
 aeadkit_opener_update = _declare("aeadkit_opener_update", _struct, *_changed)
 aeadkit_opener_finish = _declare("aeadkit_opener_finish", _struct)
-aeadkit_siv_init = _declare("aeadkit_siv_init", _struct, *_setting)
-aeadkit_siv_init_with = _declare("aeadkit_siv_init_with", _struct, *_setting_with)
-aeadkit_siv_absorb = _declare("aeadkit_siv_absorb", _struct, *_input)
+aeadkit_siv_init = _declare("aeadkit_siv_init", _struct, _suite, *_in, *_nonce, *_aad)
+aeadkit_siv_init_with = _declare("aeadkit_siv_init_with", _struct, _struct, *_nonce, *_aad)
+aeadkit_siv_absorb = _declare("aeadkit_siv_absorb", _struct, *_in)
 aeadkit_siv_begin_second = _declare("aeadkit_siv_begin_second", _struct, _tag)
 aeadkit_siv_update = _declare("aeadkit_siv_update", _struct, *_changed)
 aeadkit_siv_finish = _declare("aeadkit_siv_finish", _struct)
+aeadkit_wrap = _declare("aeadkit_wrap", *_in, *_in, *_out)
+aeadkit_unwrap = _declare("aeadkit_unwrap", *_in, *_in, *_out)
+aeadkit_wrap_padded = _declare("aeadkit_wrap_padded", *_in, *_in, *_out)
+aeadkit_unwrap_padded = _declare("aeadkit_unwrap_padded", *_in, *_in, *_out, ctypes.POINTER(ctypes.c_size_t))
 aeadkit_key_length = _declare("aeadkit_key_length", _suite, result=ctypes.c_size_t)
 aeadkit_text_limit = _declare("aeadkit_text_limit", _suite, result=ctypes.c_uint64)
 aeadkit_aad_limit = _declare("aeadkit_aad_limit", _suite, result=ctypes.c_uint64)
-aeadkit_suite_named = _declare("aeadkit_suite_named", *_input)
-aeadkit_status_text = _declare("aeadkit_status_text", ctypes.c_uint32, *_output, result=ctypes.c_size_t)

@@ -1,98 +1,66 @@
-"""An envelope of keys with rotation: records are sealed under a data key, and the data key is stored beside them, wrapped under
-a key-encryption key. When that key is changed, each data key is wrapped anew, and no record is touched.
+"""Records under a data key, and the data key under a wrapping key that can be changed without touching a record.
 
-A batch of records has a data key of its own, which seals record n once, under the nonce n: no nonce is used twice under a key.
-Each record's associated data is the batch's name, the record's number and the number of records. Against an attacker who can
-change what is stored:
-- a changed or shortened record, or wrapped key, is refused: TagMismatch or WrapIntegrity
-- records that changed places, or come from another batch, are refused: TagMismatch
-- a batch with records cut off or added, or under another batch's name, is refused: TagMismatch
-- a batch without records is refused, by seal too: nothing of it would be authenticated, and all records may have been cut off
-- a whole earlier batch of the same name and size in the place of a later one is NOT noticed: if that matters, put a version
-  into the name, and store the newest version where nobody else can write
+Each batch of records has its own random data key, so that the number of a record can be its nonce. The associated data names
+the batch, the record's number and the number of records, so that a record cannot be moved, left out or added.
 """
 
 import os
-from concurrent.futures import ThreadPoolExecutor
 from typing import Dict, List, NamedTuple
 
-from aeadkit import Key, Refused, Suite, TagMismatch, unwrap, wrap
+from aeadkit import InvalidTag, Key, Suite
+from aeadkit.keywrap import InvalidUnwrap, aes_key_unwrap, aes_key_wrap
 
 
 class Batch(NamedTuple):
-    """What is stored. Nothing of it is secret but in the sealed records and the wrapped key."""
+    """What is stored: nothing of it is secret."""
 
     name: str
-    wrapped_under: int
-    wrapped_key: bytes
-    sealed: List[bytes]
+    wrapping_key: int  # the number of the wrapping key
+    wrapped: bytes
+    records: List[bytes]
 
     def label(self, number: int) -> bytes:
-        return f"{self.name}: record {number} of {len(self.sealed)}".encode()
+        return f"{self.name}: record {number} of {len(self.records)}".encode()
 
 
-class KeyRing:
-    """The key-encryption keys, of which the newest wraps. They are made up here; elsewhere a hardware module may hold them."""
+def seal(wrapping_keys: Dict[int, bytes], name: str, texts: List[bytes]) -> Batch:
+    newest, data_key = max(wrapping_keys), os.urandom(32)
+    batch = Batch(name, newest, aes_key_wrap(wrapping_keys[newest], data_key), texts)
+    with Key(Suite.CHACHA20_POLY1305, data_key) as key:
+        return batch._replace(records=[key.seal(number.to_bytes(12, "big"), text, aad=batch.label(number))
+                                       for number, text in enumerate(texts)])
 
-    def __init__(self) -> None:
-        self.keys: Dict[int, bytes] = {}
-        self.newest = 0
-        self.rotate()
 
-    def rotate(self) -> None:
-        self.keys[self.newest + 1] = os.urandom(32)
-        self.newest += 1
+def open_batch(wrapping_keys: Dict[int, bytes], batch: Batch) -> List[bytes]:
+    """The texts. Raises InvalidUnwrap or InvalidTag if anything was changed."""
+    if not batch.records:
+        raise InvalidTag("a batch without records has no tag: all of them may have been left out")
+    with Key(Suite.CHACHA20_POLY1305, aes_key_unwrap(wrapping_keys[batch.wrapping_key], batch.wrapped)) as key:
+        return [key.open(number.to_bytes(12, "big"), sealed, aad=batch.label(number))
+                for number, sealed in enumerate(batch.records)]
 
-    def seal(self, name: str, records: List[bytes], pool: ThreadPoolExecutor) -> Batch:
-        if not records:
-            raise ValueError("a batch without records could not be told from one whose records were cut off")
-        data_key, newest = os.urandom(32), self.newest  # read once: another thread may rotate meanwhile
-        key = Key(Suite.AES_256_GCM, data_key)  # one object for all threads
-        batch = Batch(name, newest, wrap(self.keys[newest], data_key), [b""] * len(records))
 
-        def seal_record(number: int) -> bytes:
-            return key.seal(number.to_bytes(12, "big"), records[number], aad=batch.label(number))
-
-        return batch._replace(sealed=list(pool.map(seal_record, range(len(records)))))
-
-    def open(self, batch: Batch, pool: ThreadPoolExecutor) -> List[bytes]:
-        if not batch.sealed:
-            raise TagMismatch("the batch has no records")
-        key = Key(Suite.AES_256_GCM, unwrap(self.keys[batch.wrapped_under], batch.wrapped_key))
-
-        def open_record(number: int) -> bytes:
-            return key.open(number.to_bytes(12, "big"), batch.sealed[number], aad=batch.label(number))
-
-        return list(pool.map(open_record, range(len(batch.sealed))))
-
-    def rewrap(self, batch: Batch) -> Batch:
-        """The batch with its data key under the newest key-encryption key, and the records as they are."""
-        data_key = unwrap(self.keys[batch.wrapped_under], batch.wrapped_key)
-        newest = self.newest
-        return batch._replace(wrapped_under=newest, wrapped_key=wrap(self.keys[newest], data_key))
+def rewrap(wrapping_keys: Dict[int, bytes], batch: Batch) -> Batch:
+    """The batch with its data key under the newest wrapping key, and the records as they are."""
+    data_key, newest = aes_key_unwrap(wrapping_keys[batch.wrapping_key], batch.wrapped), max(wrapping_keys)
+    return batch._replace(wrapping_key=newest, wrapped=aes_key_wrap(wrapping_keys[newest], data_key))
 
 
 def main() -> None:
-    ring = KeyRing()
-    with ThreadPoolExecutor(8) as pool:
-        stored = [ring.seal(name, [f"{name} {n}".encode() * n for n in range(100)], pool) for name in ("letters", "bills")]
-        ring.rotate()
-        stored = [ring.rewrap(batch) for batch in stored]
-        del ring.keys[1]  # no batch needs the old key any more
-        letters, bills = stored
-        if ring.open(letters, pool) != [f"letters {n}".encode() * n for n in range(100)]:
-            raise SystemExit("the batch has other records than were sealed")
-
-        swapped = letters.sealed[1::-1] + letters.sealed[2:]
-        for changed in (letters._replace(sealed=swapped), letters._replace(sealed=letters.sealed[:-1]),
-                        letters._replace(sealed=[]), letters._replace(sealed=bills.sealed), letters._replace(name="bills"),
-                        letters._replace(wrapped_key=bills.wrapped_key), letters._replace(wrapped_key=bytes(40))):
-            try:
-                ring.open(changed, pool)
-            except Refused as fault:
-                print(f"refused: {fault}")
-            else:
-                raise SystemExit("a changed batch was opened")
+    wrapping_keys = {1: os.urandom(32)}
+    batch = seal(wrapping_keys, "letters", [b"one", b"two", b"three"])
+    wrapping_keys[2] = os.urandom(32)
+    batch = rewrap(wrapping_keys, batch)
+    del wrapping_keys[1]
+    print(open_batch(wrapping_keys, batch))
+    for changed in (batch._replace(records=batch.records[::-1]), batch._replace(records=batch.records[:-1]),
+                    batch._replace(name="bills"), batch._replace(wrapped=bytes(40)), batch._replace(records=[])):
+        try:
+            open_batch(wrapping_keys, changed)
+        except (InvalidTag, InvalidUnwrap) as fault:
+            print("refused:", fault)
+        else:
+            raise SystemExit("a changed batch was opened")
 
 
 if __name__ == "__main__":

@@ -1,66 +1,71 @@
-"""Seals or opens a text of any size in segments of 1 MiB, from pipe to pipe: segments.py seal|open KEYFILE LABEL < IN > OUT
+"""Seals or opens a text of any size in segments, from pipe to pipe: segments.py seal|open KEYFILE LABEL < IN > OUT
 
-KEYFILE holds the 32 bytes of a key-encryption key. OUT begins with a key of this text's own, wrapped under that key; then comes
-each segment's sealing. A segment's nonce is its number and a byte that is 1 in the last segment alone, so no nonce is used
-twice under a key. LABEL says which text this is, and opening asks for it again. Against an attacker who can change what is
-stored:
-- changed bytes are refused, and so are segments that changed places, were left out or repeated: the number is in the nonce
-- a text that was cut is refused, at a segment's end too, and so is one with more behind it: only the last segment is marked
-- segments of another text are refused, which has another key; and another text as a whole, if its LABEL is another one
-- an earlier text with the same LABEL is NOT noticed
-Each segment is written as soon as it was opened. If a later one is refused, the status is 1, and OUT is a true beginning of
-the text and no more: throw it away unless the status is 0. A program that fails while it writes to the pipe leaves a beginning
-too, which is sealed like a whole text: look at its status as well.
+KEYFILE holds a wrapping key of 32 random bytes. OUT begins with a head: MAGIC, and a data key of this text's own, wrapped. Each
+segment is sealed under the data key. Its nonce is its number and a byte that is 1 in the last segment alone, and its
+associated data is the head and LABEL. So a changed, moved or missing segment is refused, and so is a text that was cut.
+
+Opening writes a segment as soon as it is authentic. If a later one is refused, the status is 1: throw OUT away.
 """
 
 import os
 import sys
 from typing import BinaryIO, Iterator, Tuple
 
-from aeadkit import Key, Refused, Suite, unwrap, wrap
+from aeadkit import InvalidTag, Key, Suite
+from aeadkit.keywrap import InvalidUnwrap, aes_key_unwrap, aes_key_wrap
 
-SEGMENT = 1 << 20
+# The format, which is that of packages/c/examples/backup.c.
+MAGIC = b"SEGMENT1"
+SUITE = Suite.CHACHA20_POLY1305
+KEY = 32
+HEAD = len(MAGIC) + KEY + 8  # the wrapped data key is 8 bytes longer
+SEGMENT = 1 << 20  # bytes of text in each segment but the last, which may be shorter, or empty
 TAG = 16
-WRAPPED = 40
+
+
+def nonce(number: int, last: bool) -> bytes:
+    return number.to_bytes(11, "big") + bytes([last])
 
 
 def segments(source: BinaryIO, size: int) -> Iterator[Tuple[bytes, bytes]]:
-    """Each segment with its nonce. An empty text has one segment, which is empty too."""
+    """Each segment with its nonce. An empty source has one segment, which is empty too."""
     number, segment = 0, source.read(size)
-    while True:
-        following = source.read(size)
-        yield number.to_bytes(11, "big") + bytes([not following]), segment
-        if not following:
-            return
+    while following := source.read(size):
+        yield nonce(number, False), segment
         number, segment = number + 1, following
+    yield nonce(number, True), segment
 
 
-def seal(master: bytes, label: bytes, source: BinaryIO, target: BinaryIO) -> None:
-    secret = os.urandom(32)
-    target.write(wrap(master, secret))
-    key = Key(Suite.CHACHA20_POLY1305, secret)
-    for nonce, text in segments(source, SEGMENT):
-        target.write(key.seal(nonce, text, aad=label))
+def seal(wrapping_key: bytes, label: bytes, source: BinaryIO, target: BinaryIO) -> None:
+    data_key = os.urandom(KEY)
+    head = MAGIC + aes_key_wrap(wrapping_key, data_key)
+    target.write(head)
+    with Key(SUITE, data_key) as key:
+        for once, text in segments(source, SEGMENT):
+            target.write(key.seal(once, text, aad=head + label))
 
 
-def open_sealed(master: bytes, label: bytes, source: BinaryIO, target: BinaryIO) -> None:
-    key = Key(Suite.CHACHA20_POLY1305, unwrap(master, source.read(WRAPPED)))
-    for nonce, sealed in segments(source, SEGMENT + TAG):
-        target.write(key.open(nonce, sealed, aad=label))
+def open_sealed(wrapping_key: bytes, label: bytes, source: BinaryIO, target: BinaryIO) -> None:
+    head = source.read(HEAD)
+    if not head.startswith(MAGIC):
+        raise InvalidUnwrap("not a text that segments.py sealed")
+    with Key(SUITE, aes_key_unwrap(wrapping_key, head[len(MAGIC):])) as key:
+        for once, sealed in segments(source, SEGMENT + TAG):
+            target.write(key.open(once, sealed, aad=head + label))
 
 
 def main() -> None:
     calls = {"seal": seal, "open": open_sealed}
     if len(sys.argv) != 4 or sys.argv[1] not in calls:
-        sys.exit(__doc__.splitlines()[0])
+        sys.exit("usage: segments.py seal|open KEYFILE LABEL < IN > OUT")
     with open(sys.argv[2], "rb") as file:
-        master = file.read()
-    if len(master) != 32:  # wrap takes keys of 16 and 24 bytes too, and this may be the beginning of one of 32
+        wrapping_key = file.read()
+    if len(wrapping_key) != KEY:
         sys.exit("segments.py: KEYFILE is not 32 bytes long")
     try:
-        calls[sys.argv[1]](master, os.fsencode(sys.argv[3]), sys.stdin.buffer, sys.stdout.buffer)
+        calls[sys.argv[1]](wrapping_key, os.fsencode(sys.argv[3]), sys.stdin.buffer, sys.stdout.buffer)
         sys.stdout.buffer.flush()
-    except (Refused, OSError) as fault:
+    except (InvalidTag, InvalidUnwrap, OSError) as fault:
         sys.exit(f"segments.py: {fault}")
 
 

@@ -1,13 +1,10 @@
 //! Associated data.
 
-#![forbid(unsafe_code)]
-
 /// Associated data: bytes that are authenticated and not encrypted, like the header of a message. A sealing opens only with
 /// the associated data that it was sealed with.
 ///
-/// It is written as `Aad(b"to: general")` or `Aad(&header)`, and without any as [`Aad::empty`]. A call takes it as this
-/// type, and the text as a slice, so that a call with the two exchanged does not compile: it would seal the associated data,
-/// and the text would be lost.
+/// It is written as `Aad(b"to: general")` or `Aad(&header)`, and without any as [`Aad::empty`]. It is a type of its own so that
+/// a call with the text and the associated data exchanged does not compile: the text would be lost.
 #[derive(Clone, Copy, Debug, Default, PartialEq, Eq, Hash)]
 pub struct Aad<'a>(pub &'a [u8]);
 

@@ -1,59 +1,115 @@
-//! Keys that are kept between messages.
+//! Keys, and the calls for a whole message.
 
-#![forbid(unsafe_code)]
-
-use crate::{Aad, Fault, NONCE_BYTES, Opener, Sealer, SivSealer, Suite, TAG_BYTES, Tag, outcome, raw};
+use crate::error::result;
+use crate::{Aad, Error, NONCE_BYTES, Opener, Sealer, SivSealer, Suite, TAG_BYTES, Tag, raw};
 #[cfg(feature = "alloc")]
 use alloc::{vec, vec::Vec};
 use core::fmt;
 
-/// A suite and a key, whose key schedule is made once. Threads may share it.
+/// A suite and a key, whose key schedule is computed once. Threads may share it.
 ///
-/// Its memory holds the key, and is wiped when it is dropped. If it is moved, the bytes stay behind in the old place; in a `Box`
-/// or an `Arc` it stays in one place.
+/// It is wiped when it is dropped. If it is moved, its bytes stay behind in the old place; in a `Box` or an `Arc` it stays in
+/// one place.
+///
+/// # Nonces
+///
+/// Never use a nonce twice under one key; no call notices it. If two texts are sealed with one nonce and key,
+/// ChaCha20-Poly1305 and AES-GCM give away the XOR of the two texts, and enough to forge messages; AES-GCM-SIV gives away only
+/// whether the texts and the associated data were the same. A counter that is never set back is best. Use at most 2^32 random
+/// nonces under one key.
 #[derive(Clone)]
 pub struct Key {
     suite: Suite,
-    kept: raw::Key,
+    schedule: raw::Key,
 }
 
 impl Key {
-    /// Makes the schedule of a key for a suite.
+    /// Computes the schedule of a key for a suite.
     ///
     /// # Errors
     ///
-    /// `KeyLength`: `key` does not have the suite's length.
-    pub fn new(suite: Suite, key: &[u8]) -> Result<Key, Fault> {
-        let mut kept = raw::Key::new();
-        outcome(raw::key_init(&mut kept, suite as u32, key))?;
-        Ok(Key { suite, kept })
+    /// `KeyLength`: `key` is not [`Suite::key_bytes`] long.
+    pub fn new(suite: Suite, key: &[u8]) -> Result<Key, Error> {
+        let mut schedule = raw::Key::zeros();
+        result(raw::key_init(&mut schedule, suite as u32, key))?;
+        Ok(Key { suite, schedule })
     }
 
-    /// The suite.
+    /// Returns the suite.
     pub fn suite(&self) -> Suite {
         self.suite
     }
 
-    /// Seals a text where it stands, and returns its tag apart.
+    /// Seals a text, and returns the ciphertext followed by the tag.
     ///
-    /// On success `text` is the ciphertext, of the same length.
+    /// # Errors
+    ///
+    /// The first of these that applies:
+    /// - `AadTooLong`: `aad` is longer than the suite's limit
+    /// - `TextTooLong`: the text is longer than the suite's limit
+    #[cfg(feature = "alloc")]
+    pub fn seal_to_vec(&self, nonce: &[u8; NONCE_BYTES], text: &[u8], aad: Aad<'_>) -> Result<Vec<u8>, Error> {
+        let mut sealed = vec![0; text.len() + TAG_BYTES];
+        self.seal(nonce, text, &mut sealed, aad)?;
+        Ok(sealed)
+    }
+
+    /// Opens a ciphertext that is followed by its tag, and returns the text.
+    ///
+    /// # Errors
+    ///
+    /// The first of these that applies:
+    /// - `AadTooLong`: `aad` is longer than the suite's limit
+    /// - `TooShort`: `sealed` is shorter than a tag
+    /// - `TextTooLong`: the text is longer than the suite's limit
+    /// - `TagMismatch`: authentication failed
+    #[cfg(feature = "alloc")]
+    pub fn open_to_vec(&self, nonce: &[u8; NONCE_BYTES], sealed: &[u8], aad: Aad<'_>) -> Result<Vec<u8>, Error> {
+        let mut text = vec![0; sealed.len().saturating_sub(TAG_BYTES)];
+        self.open(nonce, sealed, &mut text, aad)?;
+        Ok(text)
+    }
+
+    /// Seals a text to other memory: on success `sealed` is the ciphertext followed by the tag.
+    ///
+    /// # Errors
+    ///
+    /// The first of these that applies; then no byte is written:
+    /// - `AadTooLong`: `aad` is longer than the suite's limit
+    /// - `TextTooLong`: the text is longer than the suite's limit
+    /// - `OutputLength`: `sealed` is not 16 bytes longer than `text`
+    pub fn seal(&self, nonce: &[u8; NONCE_BYTES], text: &[u8], sealed: &mut [u8], aad: Aad<'_>) -> Result<(), Error> {
+        result(raw::seal(&self.schedule, nonce, text, aad.0, sealed))
+    }
+
+    /// Opens a ciphertext that is followed by its tag to other memory: on success `text` is the text.
+    ///
+    /// # Errors
+    ///
+    /// The first of these that applies. After `TagMismatch` the whole of `text` is zeros; after the others no byte is written.
+    /// - `AadTooLong`: `aad` is longer than the suite's limit
+    /// - `TooShort`: `sealed` is shorter than a tag
+    /// - `TextTooLong`: the text is longer than the suite's limit
+    /// - `OutputLength`: `text` is not 16 bytes shorter than `sealed`
+    /// - `TagMismatch`: authentication failed
+    pub fn open(&self, nonce: &[u8; NONCE_BYTES], sealed: &[u8], text: &mut [u8], aad: Aad<'_>) -> Result<(), Error> {
+        result(raw::open(&self.schedule, nonce, sealed, aad.0, text))
+    }
+
+    /// Seals a text where it stands, and returns its tag: on success `text` is the ciphertext, of the same length.
     ///
     /// # Errors
     ///
     /// The first of these that applies; then no byte is changed:
     /// - `AadTooLong`: `aad` is longer than the suite's limit
     /// - `TextTooLong`: the text is longer than the suite's limit
-    ///
-    #[doc = include_str!("never_repeat_a_nonce.md")]
-    pub fn seal_in_place(&self, nonce: &[u8; NONCE_BYTES], text: &mut [u8], aad: Aad<'_>) -> Result<Tag, Fault> {
+    pub fn seal_in_place(&self, nonce: &[u8; NONCE_BYTES], text: &mut [u8], aad: Aad<'_>) -> Result<Tag, Error> {
         let mut tag = [0; TAG_BYTES];
-        outcome(raw::seal_in_place_with(&self.kept, nonce, text, &mut tag, aad.0))?;
+        result(raw::seal_in_place(&self.schedule, nonce, text, aad.0, &mut tag))?;
         Ok(Tag(tag))
     }
 
-    /// Opens a ciphertext where it stands. Its tag is apart.
-    ///
-    /// On success `ciphertext` is its text, of the same length.
+    /// Opens a ciphertext where it stands: on success `ciphertext` is its text, of the same length.
     ///
     /// # Errors
     ///
@@ -67,74 +123,8 @@ impl Key {
         ciphertext: &mut [u8],
         tag: &[u8; TAG_BYTES],
         aad: Aad<'_>,
-    ) -> Result<(), Fault> {
-        outcome(raw::open_in_place_with(&self.kept, nonce, ciphertext, tag, aad.0))
-    }
-
-    /// Seals a text to other memory.
-    ///
-    /// On success `sealed` is the ciphertext and then the tag.
-    ///
-    /// # Errors
-    ///
-    /// The first of these that applies; then no byte is written:
-    /// - `AadTooLong`: `aad` is longer than the suite's limit
-    /// - `TextTooLong`: the text is longer than the suite's limit
-    /// - `OutputLength`: `sealed` is not 16 bytes longer than `text`
-    ///
-    #[doc = include_str!("never_repeat_a_nonce.md")]
-    pub fn seal(&self, nonce: &[u8; NONCE_BYTES], text: &[u8], sealed: &mut [u8], aad: Aad<'_>) -> Result<(), Fault> {
-        outcome(raw::seal_with(&self.kept, nonce, text, sealed, aad.0))
-    }
-
-    /// Opens to other memory what [`Key::seal`] or [`Key::seal_to_vec`] made.
-    ///
-    /// `sealed` is the ciphertext and then the tag. On success `text` is the text.
-    ///
-    /// # Errors
-    ///
-    /// The first of these that applies. After `TagMismatch` the whole of `text` is zeros; after the others no byte is written.
-    /// - `AadTooLong`: `aad` is longer than the suite's limit
-    /// - `TooShort`: `sealed` is shorter than a tag
-    /// - `TextTooLong`: the text is longer than the suite's limit
-    /// - `OutputLength`: `text` is not 16 bytes shorter than `sealed`
-    /// - `TagMismatch`: authentication failed
-    pub fn open(&self, nonce: &[u8; NONCE_BYTES], sealed: &[u8], text: &mut [u8], aad: Aad<'_>) -> Result<(), Fault> {
-        outcome(raw::open_with(&self.kept, nonce, sealed, text, aad.0))
-    }
-
-    /// Seals a text, and returns the ciphertext and then the tag.
-    ///
-    /// # Errors
-    ///
-    /// The first of these that applies:
-    /// - `AadTooLong`: `aad` is longer than the suite's limit
-    /// - `TextTooLong`: the text is longer than the suite's limit
-    ///
-    #[doc = include_str!("never_repeat_a_nonce.md")]
-    #[cfg(feature = "alloc")]
-    pub fn seal_to_vec(&self, nonce: &[u8; NONCE_BYTES], text: &[u8], aad: Aad<'_>) -> Result<Vec<u8>, Fault> {
-        let mut sealed = vec![0; text.len() + TAG_BYTES];
-        self.seal(nonce, text, &mut sealed, aad)?;
-        Ok(sealed)
-    }
-
-    /// Opens what [`Key::seal_to_vec`] or [`Key::seal`] made, and returns the text.
-    ///
-    /// `sealed` is the ciphertext and then the tag.
-    ///
-    /// # Errors
-    ///
-    /// The first of these that applies:
-    /// - `AadTooLong`: `aad` is longer than the suite's limit
-    /// - `TooShort`: `sealed` is shorter than a tag
-    /// - `TextTooLong`: the text is longer than the suite's limit
-    /// - `TagMismatch`: authentication failed
-    #[cfg(feature = "alloc")]
-    pub fn open_to_vec(&self, nonce: &[u8; NONCE_BYTES], sealed: &[u8], aad: Aad<'_>) -> Result<Vec<u8>, Fault> {
-        let mut text = vec![0; sealed.len().saturating_sub(TAG_BYTES)];
-        self.open(nonce, sealed, &mut text, aad)?;
-        Ok(text)
+    ) -> Result<(), Error> {
+        result(raw::open_in_place(&self.schedule, nonce, ciphertext, aad.0, tag))
     }
 
     /// Begins a sealing in pieces, of an empty text so far.
@@ -142,21 +132,12 @@ impl Key {
     /// # Errors
     ///
     /// The first of these that applies:
-    /// - `UnknownSuite`: the suite is an AES-GCM-SIV, which reads a text twice; [`Key::siv_sealer`] serves it
+    /// - `UnknownSuite`: the suite is an AES-GCM-SIV, which reads a text twice: use [`Key::siv_sealer`]
     /// - `AadTooLong`: `aad` is longer than the suite's limit
-    ///
-    #[doc = include_str!("never_repeat_a_nonce.md")]
-    pub fn sealer(&self, nonce: &[u8; NONCE_BYTES], aad: Aad<'_>) -> Result<Sealer, Fault> {
-        Sealer::under(&self.kept, nonce, aad)
-    }
-
-    /// Begins an opening in pieces of a ciphertext with this tag.
-    ///
-    /// # Errors
-    ///
-    /// `AadTooLong`: `aad` is longer than the suite's limit.
-    pub fn opener(&self, nonce: &[u8; NONCE_BYTES], tag: &[u8; TAG_BYTES], aad: Aad<'_>) -> Result<Opener, Fault> {
-        Opener::under(&self.kept, nonce, tag, aad)
+    pub fn sealer(&self, nonce: &[u8; NONCE_BYTES], aad: Aad<'_>) -> Result<Sealer, Error> {
+        let mut state = raw::Sealer::default();
+        result(raw::sealer_init(&mut state, &self.schedule, nonce, aad.0))?;
+        Ok(Sealer { state })
     }
 
     /// Begins a sealing in pieces under AES-GCM-SIV, of an empty text so far.
@@ -164,12 +145,23 @@ impl Key {
     /// # Errors
     ///
     /// The first of these that applies:
-    /// - `UnknownSuite`: the suite is not an AES-GCM-SIV; [`Key::sealer`] serves the others, which read a text once
+    /// - `UnknownSuite`: the suite is not an AES-GCM-SIV, and reads a text once: use [`Key::sealer`]
     /// - `AadTooLong`: `aad` is longer than the suite's limit
+    pub fn siv_sealer(&self, nonce: &[u8; NONCE_BYTES], aad: Aad<'_>) -> Result<SivSealer, Error> {
+        let mut state = raw::Siv::default();
+        result(raw::siv_init(&mut state, &self.schedule, nonce, aad.0))?;
+        Ok(SivSealer { state })
+    }
+
+    /// Begins an opening in pieces, under any suite, of a ciphertext with this tag.
     ///
-    #[doc = include_str!("never_repeat_a_nonce.md")]
-    pub fn siv_sealer(&self, nonce: &[u8; NONCE_BYTES], aad: Aad<'_>) -> Result<SivSealer, Fault> {
-        SivSealer::under(&self.kept, nonce, aad)
+    /// # Errors
+    ///
+    /// `AadTooLong`: `aad` is longer than the suite's limit.
+    pub fn opener(&self, nonce: &[u8; NONCE_BYTES], tag: &[u8; TAG_BYTES], aad: Aad<'_>) -> Result<Opener, Error> {
+        let mut state = raw::Opener::default();
+        result(raw::opener_init(&mut state, &self.schedule, nonce, aad.0, tag))?;
+        Ok(Opener { state })
     }
 }
 

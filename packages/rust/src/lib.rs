@@ -1,47 +1,45 @@
 //! Authenticated encryption (ChaCha20-Poly1305 of RFC 8439, AES-GCM of SP 800-38D, AES-GCM-SIV of RFC 8452) and key wrapping
 //! (RFC 3394, RFC 5649), over libaeadkit.a, whose code is proved.
 //!
-//! ```
-//! use aeadkit::{Aad, Fault, Key, Suite};
+#![cfg_attr(feature = "alloc", doc = "```")]
+#![cfg_attr(not(feature = "alloc"), doc = "```ignore")]
+//! use aeadkit::{Aad, Error, Key, Suite};
 //!
-//! # fn main() -> Result<(), Fault> {
-//! let key = Key::new(Suite::Aes256GcmSiv, &[7; 32])?; // for a trial: a real key is random
+//! # fn main() -> Result<(), Error> {
+//! let key = Key::new(Suite::ChaCha20Poly1305, &[7; 32])?; // for a trial: a real key is random
 //! let nonce = [0; 12]; // of the first message under this key; count up for each further one
 //! let sealed = key.seal_to_vec(&nonce, b"attack at dawn", Aad(b"to: general"))?;
 //! assert_eq!(sealed.len(), 14 + 16); // the ciphertext, then the tag
-//! assert_eq!(key.open_to_vec(&nonce, &sealed, Aad(b"to: admiral")), Err(Fault::TagMismatch));
+//! assert_eq!(key.open_to_vec(&nonce, &sealed, Aad(b"to: admiral")), Err(Error::TagMismatch));
 //! assert_eq!(key.open_to_vec(&nonce, &sealed, Aad(b"to: general"))?, b"attack at dawn");
 //! # Ok(())
 //! # }
 //! ```
 //!
+//! Never use a nonce twice under one key: [`Key`](Key#nonces) says what a repeat gives away.
+//!
 //! | calls | the result | the tag |
 //! |---|---|---|
-//! | [`seal_to_vec`], [`open_to_vec`] | is a vector | stands at the end of the sealing |
-//! | [`seal`], [`open`] | stands in a slice of the caller, beside the input | stands at the end of the sealing |
-//! | [`seal_in_place`], [`open_in_place`] | stands where the input stood | is apart |
-//! | [`Sealer`], [`SivSealer`], [`Opener`] | stands where each piece of the input stood | is apart |
+//! | [`Key::seal_to_vec`], [`Key::open_to_vec`] | is a vector | stands at the end of the sealing |
+//! | [`Key::seal`], [`Key::open`] | stands in a slice of the caller, beside the input | stands at the end of the sealing |
+//! | [`Key::seal_in_place`], [`Key::open_in_place`] | stands where the input stood | is separate |
+//! | [`Key::sealer`], [`Key::siv_sealer`], [`Key::opener`] | stands where each piece of the input stood | is separate |
 //! | [`wrap_to_vec`], [`unwrap_to_vec`], [`wrap_padded_to_vec`], [`unwrap_padded_to_vec`] | is a vector | |
 //! | [`wrap`], [`unwrap`], [`wrap_padded`], [`unwrap_padded`] | stands in a slice of the caller | |
 //!
-//! [`Key`] has the first four rows as methods, and makes its key schedule once.
+//! All calls take their arguments in one order: nonce, the bytes that are sealed or opened, the bytes that the result goes to, a
+//! tag that is given, and the associated data. Associated data is an [`Aad`] and a key that wraps others a [`WrappingKey`]: a
+//! call that exchanges one of them with a text does not compile.
 //!
-//! All calls take their arguments in one order: suite, key, nonce, the bytes that are sealed or opened, the bytes that the result
-//! goes to, a tag that is given, and the associated data last, as an [`Aad`]. Associated data is authenticated and not encrypted,
-//! like the header of a message: a message opens only with the associated data that it was sealed with. A key that wraps others is
-//! a [`WrappingKey`]. So a call that exchanges a text with its associated data, or the two keys of a wrapping, does not compile. A
-//! call that seals one key under the bytes of another compiles with the two exchanged, and under a [`Key`] it does not.
-//!
-//! Never use a nonce twice under one key: see [`seal`]. After a fault each buffer is as before, with two exceptions: if
-//! [`open`], [`unwrap`] or [`unwrap_padded`] fails to authenticate, its output is all zeros; and a second pass or reading in
-//! pieces may end with [`Fault::SourceChanged`] after it changed its pieces. Only the calls that return a vector allocate.
+//! After an error each buffer is as before, with two exceptions: if [`Key::open`], [`unwrap`] or [`unwrap_padded`] fails to
+//! authenticate, its output is all zeros; and a second pass or reading in pieces may end with [`Error::SourceChanged`] after it
+//! changed its pieces. Only the calls that return a vector allocate.
 //!
 //! No suite and no key wrap looks up memory by a secret byte or branches on one: this was looked for in the machine code of both
 //! builds of the library, and is not proved. [`Key`] and the states in pieces are wiped when they are dropped. The caller's
 //! slices, the stack, and the places that a key or a state was moved from are not.
 //!
-//! A call takes up to 12 KiB of stack in the library, however long the text is. A thread or a coroutine with less overflows its
-//! stack.
+//! A call takes up to 12 KiB of stack in the library, however long the text is.
 //!
 //! The crate is `no_std`. Without its default feature `alloc` it has no calls that return vectors. The library calls
 //! `memcpy`, `memmove`, `memset` and `bcmp`, which the C library has. It is for x86-64 Linux, and the build for any other target,
@@ -56,7 +54,7 @@
 extern crate alloc;
 
 mod aad;
-mod fault;
+mod error;
 mod key;
 mod opener;
 #[allow(unsafe_code)]
@@ -65,22 +63,17 @@ mod sealer;
 mod siv;
 mod suite;
 mod tag;
-mod whole;
 mod wrap;
 
 pub use aad::Aad;
-pub use fault::Fault;
-use fault::outcome;
+pub use error::Error;
 pub use key::Key;
 pub use opener::{CheckedOpener, Opener};
 pub use sealer::Sealer;
 pub use siv::{SivSealer, SivWriter};
 pub use suite::Suite;
 pub use tag::Tag;
-pub use whole::{open, open_in_place, seal, seal_in_place};
-#[cfg(feature = "alloc")]
-pub use whole::{open_to_vec, seal_to_vec};
-pub use wrap::{PaddedText, WrappingKey, unwrap, unwrap_padded, wrap, wrap_padded};
+pub use wrap::{WrappingKey, unwrap, unwrap_padded, wrap, wrap_padded};
 #[cfg(feature = "alloc")]
 pub use wrap::{unwrap_padded_to_vec, unwrap_to_vec, wrap_padded_to_vec, wrap_to_vec};
 
@@ -92,3 +85,8 @@ pub const WRAP_BYTES: usize = 8;
 
 /// The length of a nonce in bytes.
 pub const NONCE_BYTES: usize = 12;
+
+#[cfg(all(doctest, feature = "alloc"))]
+#[doc = include_str!("../README.md")]
+#[doc = include_str!("../tests/compile_fail.md")]
+struct TestedPages;

@@ -1,58 +1,37 @@
 //! Sealings in pieces, in one reading.
 
-#![forbid(unsafe_code)]
-
-use crate::{Aad, Fault, NONCE_BYTES, Suite, TAG_BYTES, Tag, outcome, raw};
+use crate::error::result;
+use crate::{Error, TAG_BYTES, Tag, raw};
 use core::fmt;
 
-/// A sealing in pieces, under ChaCha20-Poly1305 or AES-GCM: [`Sealer::update`] for each piece of the text, then
-/// [`Sealer::finish`].
+/// A sealing in pieces, under ChaCha20-Poly1305 or AES-GCM: [`Key::sealer`](crate::Key::sealer), then [`Sealer::update`] for
+/// each piece of the text, then [`Sealer::finish`].
 ///
-/// The ciphertext of all pieces, and then the tag, is what [`seal`](crate::seal) makes of the whole text. The result does
+/// The ciphertext of all pieces followed by the tag is what [`Key::seal`](crate::Key::seal) makes of the whole text, and does
 /// not depend on how the text is split. The state is wiped when it is dropped.
+///
+/// Never use its nonce again, also if the sealing is dropped unfinished once it gave ciphertext: see
+/// [`Key`](crate::Key#nonces). A fork copies a sealing: go on with it in one of the two processes.
 #[must_use = "a sealing that is not finished has no tag"]
 pub struct Sealer {
-    state: raw::Sealer,
+    pub(crate) state: raw::Sealer,
 }
 
 impl Sealer {
-    /// Begins a sealing, of an empty text so far.
-    ///
-    /// # Errors
-    ///
-    /// The first of these that applies:
-    /// - `UnknownSuite`: the suite is an AES-GCM-SIV, which reads a text twice; [`SivSealer`](crate::SivSealer) serves it
-    /// - `KeyLength`: `key` does not have the suite's length
-    /// - `AadTooLong`: `aad` is longer than the suite's limit
-    ///
-    #[doc = include_str!("never_repeat_a_nonce.md")]
-    pub fn new(suite: Suite, key: &[u8], nonce: &[u8; NONCE_BYTES], aad: Aad<'_>) -> Result<Sealer, Fault> {
-        let mut state = raw::Sealer::default();
-        outcome(raw::sealer_init(&mut state, suite as u32, key, nonce, aad.0))?;
-        Ok(Sealer { state })
-    }
-
-    /// Begins a sealing under a kept key.
-    pub(crate) fn under(kept: &raw::Key, nonce: &[u8; NONCE_BYTES], aad: Aad<'_>) -> Result<Sealer, Fault> {
-        let mut state = raw::Sealer::default();
-        outcome(raw::sealer_init_with(&mut state, kept, nonce, aad.0))?;
-        Ok(Sealer { state })
-    }
-
-    /// Adds a piece of any length to the text. On success `piece` is its ciphertext.
+    /// Adds a piece of any length to the text: on success `piece` is its ciphertext.
     ///
     /// # Errors
     ///
     /// `TextTooLong`: the text would be longer than the suite's limit. The piece is not changed and does not count, and a
     /// shorter one may follow.
-    pub fn update(&mut self, piece: &mut [u8]) -> Result<(), Fault> {
-        outcome(raw::sealer_update(&mut self.state, piece))
+    pub fn update(&mut self, piece: &mut [u8]) -> Result<(), Error> {
+        result(raw::sealer_update(&mut self.state, piece))
     }
 
     /// Ends the sealing, and returns the tag of the text.
     pub fn finish(mut self) -> Tag {
         let mut tag = [0; TAG_BYTES];
-        outcome(raw::sealer_finish(&mut self.state, &mut tag)).expect("the sealing was begun");
+        result(raw::aeadkit_sealer_finish(&mut self.state, &mut tag)).expect("the sealing was begun");
         Tag(tag)
     }
 }

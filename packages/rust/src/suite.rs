@@ -1,8 +1,6 @@
 //! The suites, by number and by name.
 
-#![forbid(unsafe_code)]
-
-use crate::Fault;
+use crate::Error;
 use core::fmt;
 use core::str::FromStr;
 
@@ -86,18 +84,18 @@ impl fmt::Display for Suite {
 
 /// Reads a name in lower case. Any other text is `UnknownSuite`.
 impl FromStr for Suite {
-    type Err = Fault;
+    type Err = Error;
 
-    fn from_str(name: &str) -> Result<Suite, Fault> {
-        Suite::ALL.into_iter().find(|suite| suite.name() == name).ok_or(Fault::UnknownSuite)
+    fn from_str(name: &str) -> Result<Suite, Error> {
+        Suite::ALL.into_iter().find(|suite| suite.name() == name).ok_or(Error::UnknownSuite)
     }
 }
 
 /// Finds the suite of a number from 1 to 6. Any other number is `UnknownSuite`.
 impl TryFrom<u32> for Suite {
-    type Error = Fault;
+    type Error = Error;
 
-    fn try_from(number: u32) -> Result<Suite, Fault> {
-        Suite::ALL.into_iter().find(|suite| *suite as u32 == number).ok_or(Fault::UnknownSuite)
+    fn try_from(number: u32) -> Result<Suite, Error> {
+        Suite::ALL.into_iter().find(|suite| *suite as u32 == number).ok_or(Error::UnknownSuite)
     }
 }

@@ -1,7 +1,5 @@
 //! Tags.
 
-#![forbid(unsafe_code)]
-
 use crate::TAG_BYTES;
 use core::ops::Deref;
 

@@ -1,14 +1,12 @@
 //! Key wrapping of RFC 3394, and with padding of RFC 5649.
 
-#![forbid(unsafe_code)]
-
 #[cfg(feature = "alloc")]
 use crate::WRAP_BYTES;
-use crate::{Fault, outcome, raw};
+use crate::error::result;
+use crate::{Error, raw};
 #[cfg(feature = "alloc")]
 use alloc::{vec, vec::Vec};
 use core::fmt;
-use core::ops::{Deref, DerefMut};
 
 /// A key that wraps other keys, of 16, 24 or 32 bytes, written as `WrappingKey(&bytes)`.
 ///
@@ -24,45 +22,8 @@ impl fmt::Debug for WrappingKey<'_> {
     }
 }
 
-/// The text of a wrapping with padding: the part of the output of [`unwrap_padded`] that is the text. It can be used as a slice:
-/// `&text` is a `&[u8]`.
-///
-/// The compiler warns if it is dropped, also behind `?`, since up to 7 zeros follow the text in the output.
-#[must_use = "up to 7 zeros follow the text in the output: use this part of it"]
-#[derive(PartialEq, Eq)]
-pub struct PaddedText<'a>(&'a mut [u8]);
-
-impl Deref for PaddedText<'_> {
-    type Target = [u8];
-
-    fn deref(&self) -> &[u8] {
-        self.0
-    }
-}
-
-impl DerefMut for PaddedText<'_> {
-    fn deref_mut(&mut self) -> &mut [u8] {
-        self.0
-    }
-}
-
-/// The same part of the output, for as long as the output is borrowed.
-impl<'a> From<PaddedText<'a>> for &'a mut [u8] {
-    fn from(text: PaddedText<'a>) -> &'a mut [u8] {
-        text.0
-    }
-}
-
-/// Shows nothing of the text, which is a key as a rule.
-impl fmt::Debug for PaddedText<'_> {
-    fn fmt(&self, f: &mut fmt::Formatter<'_>) -> fmt::Result {
-        f.write_str("PaddedText")
-    }
-}
-
-/// Wraps a text, as a rule a key, to other memory (RFC 3394).
-///
-/// On success `wrapped` is the wrapping. Equal texts have equal wrappings under one key.
+/// Wraps a text, as a rule a key, to other memory (RFC 3394): on success `wrapped` is the wrapping. Equal texts have equal
+/// wrappings under one key.
 ///
 /// # Errors
 ///
@@ -70,13 +31,11 @@ impl fmt::Debug for PaddedText<'_> {
 /// - `KeyLength`: `key` is not 16, 24 or 32 bytes long
 /// - `WrapLength`: `text` is shorter than 16 bytes, or its length is not a multiple of 8
 /// - `OutputLength`: `wrapped` is not 8 bytes longer than `text`
-pub fn wrap(key: WrappingKey<'_>, text: &[u8], wrapped: &mut [u8]) -> Result<(), Fault> {
-    outcome(raw::wrap(key.0, text, wrapped))
+pub fn wrap(key: WrappingKey<'_>, text: &[u8], wrapped: &mut [u8]) -> Result<(), Error> {
+    result(raw::wrap(key.0, text, wrapped))
 }
 
-/// Unwraps to other memory what [`wrap`] made.
-///
-/// On success `text` is the text.
+/// Unwraps to other memory what [`wrap`] made: on success `text` is the text.
 ///
 /// # Errors
 ///
@@ -85,14 +44,13 @@ pub fn wrap(key: WrappingKey<'_>, text: &[u8], wrapped: &mut [u8]) -> Result<(),
 /// - `WrapLength`: `wrapped` is shorter than 24 bytes, or its length is not a multiple of 8
 /// - `OutputLength`: `text` is not 8 bytes shorter than `wrapped`
 /// - `WrapIntegrity`: `wrapped` is not a valid wrapping under this key
-pub fn unwrap(key: WrappingKey<'_>, wrapped: &[u8], text: &mut [u8]) -> Result<(), Fault> {
-    outcome(raw::unwrap(key.0, wrapped, text))
+pub fn unwrap(key: WrappingKey<'_>, wrapped: &[u8], text: &mut [u8]) -> Result<(), Error> {
+    result(raw::unwrap(key.0, wrapped, text))
 }
 
 /// Wraps a text of any length from 1 to 2^32 - 1 bytes to other memory (RFC 5649).
 ///
-/// On success `wrapped` is the wrapping, whose length is that of the text, rounded up to a multiple of 8, and 8 more:
-/// `text.len().next_multiple_of(8) + WRAP_BYTES`.
+/// On success `wrapped` is the wrapping, whose length is `text.len().next_multiple_of(8) + WRAP_BYTES`.
 ///
 /// # Errors
 ///
@@ -101,13 +59,13 @@ pub fn unwrap(key: WrappingKey<'_>, wrapped: &[u8], text: &mut [u8]) -> Result<(
 /// - `WrapLength`: `text` is empty
 /// - `TextTooLong`: the text is longer than 2^32 - 1 bytes
 /// - `OutputLength`: `wrapped` does not have that length
-pub fn wrap_padded(key: WrappingKey<'_>, text: &[u8], wrapped: &mut [u8]) -> Result<(), Fault> {
-    outcome(raw::wrap_padded(key.0, text, wrapped))
+pub fn wrap_padded(key: WrappingKey<'_>, text: &[u8], wrapped: &mut [u8]) -> Result<(), Error> {
+    result(raw::wrap_padded(key.0, text, wrapped))
 }
 
 /// Unwraps to other memory what [`wrap_padded`] made, and returns the part of `text` that is the text.
 ///
-/// On success `text` is the text and then at most 7 zeros. Only the result tells where the text ends.
+/// On success `text` is the text followed by at most 7 zeros. Only the result tells where the text ends.
 ///
 /// # Errors
 ///
@@ -117,10 +75,10 @@ pub fn wrap_padded(key: WrappingKey<'_>, text: &[u8], wrapped: &mut [u8]) -> Res
 /// - `TextTooLong`: the text is longer than 2^32 - 1 bytes
 /// - `OutputLength`: `text` is not 8 bytes shorter than `wrapped`
 /// - `WrapIntegrity`: `wrapped` is not a valid wrapping with padding under this key
-pub fn unwrap_padded<'a>(key: WrappingKey<'_>, wrapped: &[u8], text: &'a mut [u8]) -> Result<PaddedText<'a>, Fault> {
-    let (status, length) = raw::unwrap_padded(key.0, wrapped, text);
-    outcome(status)?;
-    Ok(PaddedText(&mut text[..length]))
+pub fn unwrap_padded<'a>(key: WrappingKey<'_>, wrapped: &[u8], text: &'a mut [u8]) -> Result<&'a [u8], Error> {
+    let mut length = 0;
+    result(raw::unwrap_padded(key.0, wrapped, text, &mut length))?;
+    Ok(&text[..length])
 }
 
 /// Wraps a text as [`wrap`] does, and returns the wrapping.
@@ -129,7 +87,7 @@ pub fn unwrap_padded<'a>(key: WrappingKey<'_>, wrapped: &[u8], text: &'a mut [u8
 ///
 /// Those of [`wrap`], except `OutputLength`.
 #[cfg(feature = "alloc")]
-pub fn wrap_to_vec(key: WrappingKey<'_>, text: &[u8]) -> Result<Vec<u8>, Fault> {
+pub fn wrap_to_vec(key: WrappingKey<'_>, text: &[u8]) -> Result<Vec<u8>, Error> {
     let mut wrapped = vec![0; text.len() + WRAP_BYTES];
     wrap(key, text, &mut wrapped)?;
     Ok(wrapped)
@@ -141,7 +99,7 @@ pub fn wrap_to_vec(key: WrappingKey<'_>, text: &[u8]) -> Result<Vec<u8>, Fault> 
 ///
 /// Those of [`unwrap`], except `OutputLength`.
 #[cfg(feature = "alloc")]
-pub fn unwrap_to_vec(key: WrappingKey<'_>, wrapped: &[u8]) -> Result<Vec<u8>, Fault> {
+pub fn unwrap_to_vec(key: WrappingKey<'_>, wrapped: &[u8]) -> Result<Vec<u8>, Error> {
     let mut text = vec![0; wrapped.len().saturating_sub(WRAP_BYTES)];
     unwrap(key, wrapped, &mut text)?;
     Ok(text)
@@ -153,7 +111,7 @@ pub fn unwrap_to_vec(key: WrappingKey<'_>, wrapped: &[u8]) -> Result<Vec<u8>, Fa
 ///
 /// Those of [`wrap_padded`], except `OutputLength`.
 #[cfg(feature = "alloc")]
-pub fn wrap_padded_to_vec(key: WrappingKey<'_>, text: &[u8]) -> Result<Vec<u8>, Fault> {
+pub fn wrap_padded_to_vec(key: WrappingKey<'_>, text: &[u8]) -> Result<Vec<u8>, Error> {
     let mut wrapped = vec![0; text.len().next_multiple_of(8) + WRAP_BYTES];
     wrap_padded(key, text, &mut wrapped)?;
     Ok(wrapped)
@@ -165,7 +123,7 @@ pub fn wrap_padded_to_vec(key: WrappingKey<'_>, text: &[u8]) -> Result<Vec<u8>, 
 ///
 /// Those of [`unwrap_padded`], except `OutputLength`.
 #[cfg(feature = "alloc")]
-pub fn unwrap_padded_to_vec(key: WrappingKey<'_>, wrapped: &[u8]) -> Result<Vec<u8>, Fault> {
+pub fn unwrap_padded_to_vec(key: WrappingKey<'_>, wrapped: &[u8]) -> Result<Vec<u8>, Error> {
     let mut text = vec![0; wrapped.len().saturating_sub(WRAP_BYTES)];
     let length = unwrap_padded(key, wrapped, &mut text)?.len();
     text.truncate(length);

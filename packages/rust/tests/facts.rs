@@ -1,6 +1,6 @@
 //! The constants of the crate are those of the library that is linked.
 
-use aeadkit::{Key, Suite};
+use aeadkit::{CheckedOpener, Error, Key, Opener, Sealer, SivSealer, SivWriter, Suite, Tag};
 
 unsafe extern "C" {
     safe fn aeadkit_key_length(suite: u32) -> usize;
@@ -15,26 +15,45 @@ unsafe extern "C" {
 }
 
 #[test]
-fn of_suites() {
-    for suite in Suite::ALL {
-        let (number, name) = (suite as u32, suite.name());
+fn suites() {
+    for (suite, number) in Suite::ALL.into_iter().zip(1..) {
+        let name = suite.name();
+        // SAFETY: pointer and length are those of one string.
+        assert_eq!(number, unsafe { aeadkit_suite_named(name.as_ptr(), name.len()) });
+        assert_eq!((suite as u32, Suite::try_from(number)), (number, Ok(suite)));
+        assert_eq!((format!("{suite:>20}"), name.parse()), (format!("{name:>20}"), Ok(suite)));
         assert_eq!(suite.key_bytes(), aeadkit_key_length(number));
         assert_eq!(suite.text_limit(), aeadkit_text_limit(number));
         assert_eq!(suite.aad_limit(), aeadkit_aad_limit(number));
-        // SAFETY: pointer and length are those of one string.
-        assert_eq!(number, unsafe { aeadkit_suite_named(name.as_ptr(), name.len()) });
     }
-    assert_eq!(aeadkit_key_length(0), 0);
-    assert_eq!(aeadkit_key_length(Suite::ALL.len() as u32 + 1), 0);
+    for number in [0, 7, u32::MAX] {
+        assert_eq!((Suite::try_from(number), aeadkit_key_length(number)), (Err(Error::UnknownSuite), 0));
+    }
+    for name in ["", "AES-128-GCM", "aes-128-gcm ", "aes-128"] {
+        assert_eq!(name.parse::<Suite>(), Err(Error::UnknownSuite));
+    }
 }
 
 #[test]
-fn of_structs() {
-    let sizes = [aeadkit_sealer_size(), aeadkit_opener_size(), aeadkit_siv_size(), aeadkit_key_size()];
-    assert_eq!(sizes, [144, 192, 192, 808]);
-    assert_eq!(size_of::<aeadkit::Sealer>(), sizes[0]);
-    assert_eq!([size_of::<aeadkit::Opener>(), size_of::<aeadkit::CheckedOpener>()], [sizes[1]; 2]);
-    assert_eq!([size_of::<aeadkit::SivSealer>(), size_of::<aeadkit::SivWriter>()], [sizes[2]; 2]);
-    assert_eq!(size_of::<Key>(), sizes[3] + 8);
-    assert_eq!(aeadkit_version() / 10000, 3);
+fn structs() {
+    assert_eq!(size_of::<Key>(), aeadkit_key_size() + 8);
+    assert_eq!(size_of::<Sealer>(), aeadkit_sealer_size());
+    assert_eq!([size_of::<Opener>(), size_of::<CheckedOpener>()], [aeadkit_opener_size(); 2]);
+    assert_eq!([size_of::<SivSealer>(), size_of::<SivWriter>()], [aeadkit_siv_size(); 2]);
+}
+
+#[test]
+fn version() {
+    let number = aeadkit_version();
+    let version = format!("{}.{}.{}", number / 10000, number / 100 % 100, number % 100);
+    assert_eq!(version, env!("CARGO_PKG_VERSION"));
+}
+
+#[test]
+fn threads_and_errors() {
+    fn may_be_shared<T: Send + Sync + Unpin + 'static>() {}
+    may_be_shared::<(Key, Suite, Tag, Sealer, Opener, CheckedOpener, SivSealer, SivWriter)>();
+    let error: Box<dyn std::error::Error + Send + Sync> = Error::TagMismatch.into();
+    assert_eq!(error.downcast_ref(), Some(&Error::TagMismatch));
+    assert_eq!(error.to_string(), "authentication failed");
 }

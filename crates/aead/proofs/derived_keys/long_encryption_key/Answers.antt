@@ -7,5 +7,5 @@ returns c =
     c.joined.ensures
     ∙ ap₂ (λ a b. a ++ b)
     (c.joined-first.ensures ∙ ap₂ (λ a b. a ++ b) c.at.ensures c.at-2.ensures)
-    (c.joined-second.ensures ∙ ap₂ (λ a b. a ++ b) c.key_part.ensures c.key_part-2.ensures)
+    c.last_parts.ensures
     ∙ sym (long_key c.args.parts.now.key.now c.args.parts.now.nonce.now c.requires)

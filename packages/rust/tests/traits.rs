@@ -1,0 +1,66 @@
+//! The code of README.md that writes the traits of the crate `aead` 0.5 over `Key`, compiled against a stub of that crate.
+
+/// What the code uses of `aead` 0.5. There the lengths are types of `typenum`, and the arrays are those of `generic_array`.
+#[rustfmt::skip]
+mod aead {
+    pub struct Array<const N: usize>([u8; N]);
+
+    impl<const N: usize> From<[u8; N]> for Array<N> {
+        fn from(bytes: [u8; N]) -> Self { Array(bytes) }
+    }
+    impl<const N: usize> AsRef<[u8; N]> for Array<N> {
+        fn as_ref(&self) -> &[u8; N] { &self.0 }
+    }
+    impl<const N: usize> std::ops::Deref for Array<N> {
+        type Target = [u8];
+        fn deref(&self) -> &[u8] { &self.0 }
+    }
+
+    pub struct Length<const N: usize>;
+    pub trait ArrayLength { type Array; }
+    impl<const N: usize> ArrayLength for Length<N> { type Array = Array<N>; }
+    pub mod consts {
+        pub type U0 = super::Length<0>;
+        pub type U12 = super::Length<12>;
+        pub type U16 = super::Length<16>;
+        pub type U32 = super::Length<32>;
+    }
+
+    #[derive(Debug, PartialEq)]
+    pub struct Error;
+    pub type Result<T> = core::result::Result<T, Error>;
+    pub type Key<A> = <<A as KeySizeUser>::KeySize as ArrayLength>::Array;
+    pub type Nonce<A> = <<A as AeadCore>::NonceSize as ArrayLength>::Array;
+    pub type Tag<A> = <<A as AeadCore>::TagSize as ArrayLength>::Array;
+
+    pub trait KeySizeUser { type KeySize: ArrayLength; }
+    pub trait KeyInit: KeySizeUser + Sized { fn new(key: &Key<Self>) -> Self; }
+    pub trait AeadCore { type NonceSize: ArrayLength; type TagSize: ArrayLength; type CiphertextOverhead: ArrayLength; }
+    pub trait AeadInPlace: AeadCore {
+        fn encrypt_in_place_detached(
+            &self, nonce: &Nonce<Self>, associated_data: &[u8], buffer: &mut [u8],
+        ) -> Result<Tag<Self>>;
+        fn decrypt_in_place_detached(
+            &self, nonce: &Nonce<Self>, associated_data: &[u8], buffer: &mut [u8], tag: &Tag<Self>,
+        ) -> Result<()>;
+    }
+}
+
+include!("traits/over_key.rs");
+
+#[test]
+fn the_readme_has_this_code() {
+    assert!(include_str!("../README.md").contains(include_str!("traits/over_key.rs")));
+}
+
+#[test]
+fn there_and_back() {
+    let (cipher, nonce) = (ChaCha20Poly1305::new(&[7; 32].into()), [9; 12].into());
+    let mut text = *b"attack at dawn";
+    let tag = cipher.encrypt_in_place_detached(&nonce, b"to: general", &mut text).unwrap();
+    let key = Key::new(Suite::ChaCha20Poly1305, &[7; 32]).unwrap();
+    key.open_in_place(&[9; 12], &mut text.clone(), tag.as_ref(), Aad(b"to: general")).unwrap();
+    assert_eq!(cipher.decrypt_in_place_detached(&nonce, b"to: admiral", &mut text, &tag), Err(Error));
+    cipher.decrypt_in_place_detached(&nonce, b"to: general", &mut text, &tag).unwrap();
+    assert_eq!(&text, b"attack at dawn");
+}
