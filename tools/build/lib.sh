@@ -8,9 +8,10 @@ exports=$top/packages/c/exports.map
 version=$(sed -n 's/^pub const VERSION: &str = "\(.*\)";$/\1/p' "$top/crates/command/src/version.rt")
 major=${version%%.*}
 
-# Prints a file with the version in the place of 0.0.0: filled FILE
+# Prints a file with the version in the place of 0.0.0, and with its numbers in the macros of the header: filled FILE
 filled() {
-    sed "s/0\.0\.0/$version/" "$1"
+    rest=${version#*.}
+    sed -E "s/0\.0\.0/$version/; s/(VERSION_MAJOR) 0\$/\1 $major/; s/(VERSION_MINOR) 0\$/\1 ${rest%.*}/; s/(VERSION_PATCH) 0\$/\1 ${rest#*.}/" "$1"
 }
 
 # Brings BUILD/KIND, a copy of the crates, up to date, and sets `room` to it: copied KIND
