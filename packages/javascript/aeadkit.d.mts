@@ -23,7 +23,7 @@
  * can have, in the order in which they are looked for. Besides, each throws a `TypeError` for an argument of the wrong kind.
  *
  * **Memory and timing.** A call leaves zeros where its arguments and results stood in the module's memory, but not on the module's
- * stack. Nothing is claimed about timing: the engine compiles the module, and what it makes of it was not looked at.
+ * stack. Nothing is claimed about timing, and for AES the module looks up tables at addresses that depend on secrets.
  */
 
 /** The suites. A tag is 16 bytes long under each. A suite may also be given by its name, as in `"aes-256-gcm"`. */

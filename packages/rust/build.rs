@@ -1,6 +1,5 @@
-//! Links libaeadkit.a: that of the prefix that AEADKIT_PREFIX names, or else that in the crate's own folder `lib`, or else that
-//! of the prefix that has the crate in `share/aeadkit/rust`. If the program is compiled for processors with AVX2, the archive
-//! comes from `x86-64-v3` beside it.
+//! Links lib/libaeadkit.a of the folder that AEADKIT_PREFIX names, or else the one that this crate contains. If the program is
+//! compiled for processors with AVX2, the archive is lib/x86-64-v3/libaeadkit.a, if it is there.
 
 use std::{env, path::PathBuf};
 
@@ -14,12 +13,8 @@ fn main() {
         println!("cargo::error=libaeadkit.a is for x86-64 Linux alone");
         return;
     }
-    let here = PathBuf::from(env::var_os("CARGO_MANIFEST_DIR").expect("cargo sets it"));
-    let mut lib = match env::var_os("AEADKIT_PREFIX") {
-        Some(prefix) => PathBuf::from(prefix).join("lib"),
-        None if here.join("lib/libaeadkit.a").exists() => here.join("lib"),
-        None => here.join("../../../lib"),
-    };
+    let prefix = env::var_os("AEADKIT_PREFIX").or(env::var_os("CARGO_MANIFEST_DIR")).expect("cargo sets the second");
+    let mut lib = PathBuf::from(prefix).join("lib");
     let (features, fast) = (of_target("FEATURE"), lib.join("x86-64-v3"));
     let is_fast = FAST.iter().all(|wanted| features.split(',').any(|feature| feature == *wanted));
     if is_fast && fast.join("libaeadkit.a").exists() {
@@ -27,10 +22,7 @@ fn main() {
     }
     let archive = lib.join("libaeadkit.a");
     if !archive.exists() {
-        println!(
-            "cargo::error={} is not there: set AEADKIT_PREFIX to a prefix with lib/libaeadkit.a",
-            archive.display()
-        );
+        println!("cargo::error=no {}: set AEADKIT_PREFIX to a folder with lib/libaeadkit.a", archive.display());
         return;
     }
     println!("cargo::rerun-if-changed={}", archive.display());

@@ -11,44 +11,37 @@
 #include <string.h>
 #include <unistd.h>
 
-enum { SUITE = AEADKIT_AES_256_GCM, KEY = 32, TEXT = 26, SEALED = TEXT + AEADKIT_TAG_BYTES };
+enum { SUITE = AEADKIT_CHACHA20_POLY1305, KEY = 32, NONCE = AEADKIT_NONCE_BYTES, TAG = AEADKIT_TAG_BYTES };
+enum { TEXT = 26, SEALED = TEXT + TAG };
 
 /* Returns whether a call is done, and says why if it is not. */
 static int done(const char *call, uint32_t status) {
-    uint8_t why[32];
-    size_t length = aeadkit_status_text(status, why, sizeof why);
-    if (status != AEADKIT_DONE) fprintf(stderr, "%s: %.*s\n", call, (int)length, (const char *)why);
+    if (status != AEADKIT_DONE) fprintf(stderr, "%s: %s\n", call, aeadkit_status_string(status));
     return status == AEADKIT_DONE;
 }
 
 int main(int count, char **words) {
     const char *text = "The parcel leaves at nine.", *aad = "message to Vienna";
-    uint8_t key[KEY], nonce[AEADKIT_NONCE_BYTES] = {0}, tag[AEADKIT_TAG_BYTES];
-    uint8_t sealed[SEALED], opened[TEXT], place[TEXT];
-    size_t changed = count > 1 ? (size_t)atoi(words[1]) : (size_t)SEALED;
-    int all = 1;
+    uint8_t key[KEY], nonce[NONCE] = {0}, tag[TAG], sealed[SEALED], opened[TEXT], place[TEXT];
+    int changed = count > 1 ? atoi(words[1]) : (int)SEALED, opens, opens_in_place;
     if (getentropy(key, KEY)) return 1; /* both sides have it; 32 bytes, as aeadkit_key_length(SUITE) says */
 
     /* To other memory. The tag is the end of the sealing. */
     nonce[0] = 1; /* the number of the message: it never comes twice under one key */
-    if (!done("seal", aeadkit_seal(SUITE, key, KEY, nonce, sizeof nonce, (const uint8_t *)text, TEXT,
-                                   (const uint8_t *)aad, strlen(aad), sealed, SEALED))) return 1;
+    if (!done("seal", aeadkit_seal(SUITE, key, KEY, nonce, NONCE, text, TEXT, aad, strlen(aad), sealed, SEALED))) return 1;
     if (changed < SEALED) sealed[changed] ^= 1;
-    if (done("open", aeadkit_open(SUITE, key, KEY, nonce, sizeof nonce, sealed, SEALED,
-                                  (const uint8_t *)aad, strlen(aad), opened, TEXT))) printf("%.*s\n", TEXT, (const char *)opened);
-    else all = 0; /* `opened` is zeros */
+    opens = done("open", aeadkit_open(SUITE, key, KEY, nonce, NONCE, sealed, SEALED, aad, strlen(aad), opened, TEXT));
+    if (opens) printf("%.*s\n", TEXT, (const char *)opened); /* otherwise `opened` is zeros */
 
     /* In place. The tag is apart, and is sent behind the ciphertext. */
     nonce[0] = 2;
     memcpy(place, text, TEXT);
-    if (!done("seal in place", aeadkit_seal_in_place(SUITE, key, KEY, nonce, sizeof nonce, place, TEXT,
-                                                     (const uint8_t *)aad, strlen(aad), tag))) return 1;
+    if (!done("seal in place", aeadkit_seal_in_place(SUITE, key, KEY, nonce, NONCE, place, TEXT, aad, strlen(aad), tag))) return 1;
     if (changed < TEXT) place[changed] ^= 1;
     else if (changed < SEALED) tag[changed - TEXT] ^= 1;
-    if (done("open in place", aeadkit_open_in_place(SUITE, key, KEY, nonce, sizeof nonce, place, TEXT,
-                                                    (const uint8_t *)aad, strlen(aad), tag)))
-        printf("%.*s\n", TEXT, (const char *)place);
-    else all = 0; /* `place` is still the ciphertext */
+    opens_in_place = done("open in place", aeadkit_open_in_place(SUITE, key, KEY, nonce, NONCE, place, TEXT,
+                                                                 aad, strlen(aad), tag));
+    if (opens_in_place) printf("%.*s\n", TEXT, (const char *)place); /* otherwise `place` is still the ciphertext */
     explicit_bzero(key, KEY);
-    return ferror(stdout) || fclose(stdout) || !all; /* a text that was not written does not count */
+    return fclose(stdout) || !opens || !opens_in_place; /* a text that was not written does not count */
 }

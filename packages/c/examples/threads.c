@@ -43,7 +43,7 @@ static int in_threads(void) {
 
 int main(int count, char **words) {
     uint8_t key[32];
-    if (getentropy(key, sizeof key) || aeadkit_key_init(&shared, AEADKIT_AES_256_GCM, key, sizeof key)) return 2;
+    if (getentropy(key, sizeof key) || aeadkit_key_init(&shared, AEADKIT_CHACHA20_POLY1305, key, sizeof key)) return 2;
     if (in_threads() != ALL) return 2;
     if (count > 1) records[(unsigned)atoi(words[1]) % ALL].text[0] ^= 1;
     opening = 1;

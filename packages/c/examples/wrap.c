@@ -12,12 +12,12 @@
 
 enum { MOST = 4096 };
 
-static void stop(const char *what) {
-    fprintf(stderr, "wrap: %s\n", what);
+static void stop(const char *why) {
+    fprintf(stderr, "wrap: %s\n", why);
     exit(1);
 }
 
-/* Reads a file to its end. EOF may also be a failure: a pipe that does not wait may have more bytes later. */
+/* Reads a file to its end. */
 static size_t all_of(FILE *file, uint8_t *to, size_t room) {
     size_t length = file ? fread(to, 1, room, file) : 0;
     if (!file || fgetc(file) != EOF || ferror(file)) stop("a file cannot be read, or is too long");
@@ -26,29 +26,26 @@ static size_t all_of(FILE *file, uint8_t *to, size_t room) {
 
 int main(int count, char **words) {
     static uint8_t key[AEADKIT_KEY_MOST_BYTES], in[MOST + AEADKIT_WRAP_BYTES], out[MOST + AEADKIT_WRAP_BYTES];
-    uint8_t why[33] = {0};
-    uint32_t status;
+    size_t key_length, length, out_length;
+    uint32_t status = AEADKIT_DONE;
     if (count != 3) stop("usage: wrap wrap|unwrap|wrap-padded|unwrap-padded KEYFILE < IN > OUT");
     const char *way = words[1];
-    size_t room = way[0] == 'u' ? sizeof in : (size_t)MOST; /* what can be wrapped can be unwrapped */
-    size_t key_length = all_of(fopen(words[2], "rb"), key, sizeof key), length = all_of(stdin, in, room), out_length;
-
+    key_length = all_of(fopen(words[2], "rb"), key, sizeof key);
+    length = all_of(stdin, in, way[0] == 'u' ? sizeof in : (size_t)MOST);
     if (!strcmp(way, "wrap")) {
         out_length = length + AEADKIT_WRAP_BYTES;
         status = aeadkit_wrap(key, key_length, in, length, out, out_length);
     } else if (!strcmp(way, "wrap-padded")) {
         out_length = (length + 7) / 8 * 8 + AEADKIT_WRAP_BYTES; /* the padding makes the length a multiple of 8 */
         status = aeadkit_wrap_padded(key, key_length, in, length, out, out_length);
-    } else if (!strcmp(way, "unwrap") || !strcmp(way, "unwrap-padded")) {
-        out_length = length < AEADKIT_WRAP_BYTES ? 0 : length - AEADKIT_WRAP_BYTES; /* a wrong length has a status */
-        status = way[6] ? aeadkit_unwrap_padded(key, key_length, in, length, out, out_length, &out_length)
-                        : aeadkit_unwrap(key, key_length, in, length, out, out_length);
     } else {
-        stop("WAY is wrap, unwrap, wrap-padded or unwrap-padded");
-        return 1;
+        out_length = length < AEADKIT_WRAP_BYTES ? 0 : length - AEADKIT_WRAP_BYTES; /* a wrong length has a status */
+        if (!strcmp(way, "unwrap")) status = aeadkit_unwrap(key, key_length, in, length, out, out_length);
+        else if (!strcmp(way, "unwrap-padded"))
+            status = aeadkit_unwrap_padded(key, key_length, in, length, out, out_length, &out_length);
+        else stop("WAY is wrap, unwrap, wrap-padded or unwrap-padded");
     }
-    aeadkit_status_text(status, why, sizeof why - 1);
-    if (status != AEADKIT_DONE) stop((const char *)why);
+    if (status != AEADKIT_DONE) stop(aeadkit_status_string(status));
     if (fwrite(out, 1, out_length, stdout) != out_length || fclose(stdout)) stop("the output cannot be written");
     explicit_bzero(key, sizeof key);
     explicit_bzero(in, sizeof in);

@@ -412,6 +412,7 @@ static void facts(void) {
     is("a key wrap is not a suite", aeadkit_suite_named((const uint8_t *)"aes-128-wrap", 12) == 0);
     for (uint32_t status = 0; status < 18; status++) {
         size_t length = strlen(texts[status]);
+        is("a status's string", !strcmp(aeadkit_status_string(status), length ? texts[status] : "unknown status"));
         is("a status's length", aeadkit_status_text(status, NULL, 0) == length);
         for (size_t room = 0; room <= 32; room++) {
             uint8_t text[33];
@@ -421,10 +422,12 @@ static void facts(void) {
             is("a status's text", !memcmp(text, texts[status], written) && all(text + written, sizeof text - written, 0xa5));
         }
     }
-    is("the largest number is not a status", aeadkit_status_text(UINT32_MAX, NULL, 0) == 0);
+    is("the largest number is not a status", aeadkit_status_text(UINT32_MAX, NULL, 0) == 0
+                                              && !strcmp(aeadkit_status_string(UINT32_MAX), "unknown status"));
     unsigned major = 0, minor = 0, patch = 0;
-    is("the header's version", sscanf(AEADKIT_VERSION, "%u.%u.%u", &major, &minor, &patch) == 3);
-    is("the library's version", aeadkit_version() == major * 10000 + minor * 100 + patch);
+    is("the header's version", sscanf(AEADKIT_VERSION, "%u.%u.%u", &major, &minor, &patch) == 3 && major == AEADKIT_VERSION_MAJOR
+                                   && minor == AEADKIT_VERSION_MINOR && patch == AEADKIT_VERSION_PATCH);
+    is("the library's version", aeadkit_version() == AEADKIT_VERSION_NUMBER);
     is("sizes", aeadkit_sealer_size() == AEADKIT_SEALER_BYTES && aeadkit_opener_size() == AEADKIT_OPENER_BYTES
                     && aeadkit_siv_size() == AEADKIT_SIV_BYTES && aeadkit_key_size() == AEADKIT_KEPT_KEY_BYTES);
     is("structs", sizeof(struct aeadkit_sealer) == AEADKIT_SEALER_BYTES && sizeof(struct aeadkit_opener) == AEADKIT_OPENER_BYTES

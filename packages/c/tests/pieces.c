@@ -469,7 +469,7 @@ static void begun_by_a_kept_key(const struct aeadkit_key *kept, const struct mes
         want(siv_status == AEADKIT_UNKNOWN_SUITE, "a suite of one reading", number);
     }
     want(all((uint8_t *)&held.siv, sizeof held.siv, 0), "a siv is not zeros after a refusal", number);
-    want(aeadkit_opener_init_with(&held.opener, kept, m->nonce, 13, NULL, 0, m->key) == AEADKIT_NONCE_LENGTH,
+    want(aeadkit_opener_init_with(&held.opener, kept, m->key, 13, NULL, 0, m->key) == AEADKIT_NONCE_LENGTH,
          "an opener with a nonce of 13 bytes", number);
     want(all((uint8_t *)&held.opener, sizeof held.opener, 0), "an opener is not zeros after a nonce of 13 bytes", number);
     want(all((uint8_t *)held.before, 16, 0xa5) && all((uint8_t *)held.after_sealer, 16, 0xa5)

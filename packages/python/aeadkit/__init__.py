@@ -138,8 +138,8 @@ def _in(*parts: Buffer) -> list[Any]:
     return words
 
 
-def _aad(aad: Optional[Buffer]) -> list[Any]:
-    return _in(b"" if aad is None else aad)
+def _aad(aad: Optional[Buffer]) -> Buffer:
+    return b"" if aad is None else aad
 
 
 def _tag(tag: Buffer) -> bytes:
@@ -236,46 +236,46 @@ class Key(_HasStruct):
         """Returns the ciphertext of the text, followed by the tag of 16 bytes."""
         data = _bytes(text)
         sealed = _new_bytes(None, len(data) + _TAG_BYTES)
-        _check(lib.aeadkit_seal_with(self._get(), *_in(nonce, data), *_aad(aad), sealed, len(sealed)))
+        _check(lib.aeadkit_seal_with(self._get(), *_in(nonce, data, _aad(aad)), sealed, len(sealed)))
         return sealed
 
     def open(self, nonce: Buffer, sealed: Buffer, *, aad: Optional[Buffer] = None) -> bytes:
         """Returns the text of what seal returned, or raises InvalidTag."""
         data = _bytes(sealed)
         text = _new_bytes(None, max(len(data) - _TAG_BYTES, 0))
-        _check(lib.aeadkit_open_with(self._get(), *_in(nonce, data), *_aad(aad), text, len(text)))
+        _check(lib.aeadkit_open_with(self._get(), *_in(nonce, data, _aad(aad)), text, len(text)))
         return text
 
     def seal_in_place(self, nonce: Buffer, text: Buffer, *, aad: Optional[Buffer] = None) -> bytes:
         """Replaces a text in a writable buffer by its ciphertext, and returns the tag of 16 bytes."""
         tag = ctypes.create_string_buffer(_TAG_BYTES)
         with _view(text) as view:
-            _check(lib.aeadkit_seal_in_place_with(self._get(), *_in(nonce), *_place(view), *_aad(aad), tag))
+            _check(lib.aeadkit_seal_in_place_with(self._get(), *_in(nonce), *_place(view), *_in(_aad(aad)), tag))
         return tag.raw
 
     def open_in_place(self, nonce: Buffer, ciphertext: Buffer, tag: Buffer, *, aad: Optional[Buffer] = None) -> None:
         """Replaces a ciphertext in a writable buffer by its text, or raises InvalidTag and leaves the ciphertext there."""
         expected = _tag(tag)
         with _view(ciphertext) as view:
-            _check(lib.aeadkit_open_in_place_with(self._get(), *_in(nonce), *_place(view), *_aad(aad), expected))
+            _check(lib.aeadkit_open_in_place_with(self._get(), *_in(nonce), *_place(view), *_in(_aad(aad)), expected))
 
     def sealer(self, nonce: Buffer, *, aad: Optional[Buffer] = None) -> Sealer:
         """Begins a sealing in pieces under ChaCha20-Poly1305 or AES-GCM. The key may be closed meanwhile."""
         sealer, struct = Sealer.__new__(Sealer), self._get()
-        sealer._struct = _Struct(lib.SEALER, struct.suite, lib.aeadkit_sealer_init_with, struct, *_in(nonce), *_aad(aad))
+        sealer._struct = _Struct(lib.SEALER, struct.suite, lib.aeadkit_sealer_init_with, struct, *_in(nonce, _aad(aad)))
         return sealer
 
     def opener(self, nonce: Buffer, tag: Buffer, *, aad: Optional[Buffer] = None) -> Opener:
         """Begins an opening in pieces under any suite. `tag` is the last 16 bytes of the sealing."""
         opener, struct = Opener.__new__(Opener), self._get()
-        opener._struct = _Struct(lib.OPENER, struct.suite, lib.aeadkit_opener_init_with, struct, *_in(nonce), *_aad(aad),
+        opener._struct = _Struct(lib.OPENER, struct.suite, lib.aeadkit_opener_init_with, struct, *_in(nonce, _aad(aad)),
                                  _tag(tag))
         return opener
 
     def siv_sealer(self, nonce: Buffer, *, aad: Optional[Buffer] = None) -> SivSealer:
         """Begins a sealing in pieces under AES-GCM-SIV. The key may be closed meanwhile."""
         sealer, struct = SivSealer.__new__(SivSealer), self._get()
-        sealer._struct = _Struct(lib.SIV, struct.suite, lib.aeadkit_siv_init_with, struct, *_in(nonce), *_aad(aad))
+        sealer._struct = _Struct(lib.SIV, struct.suite, lib.aeadkit_siv_init_with, struct, *_in(nonce, _aad(aad)))
         return sealer
 
 
@@ -315,7 +315,7 @@ class Sealer(_InPieces):
 
     def __init__(self, suite: int, key: Buffer, nonce: Buffer, *, aad: Optional[Buffer] = None) -> None:
         member = _suite(suite)
-        self._struct = _Struct(lib.SEALER, member, lib.aeadkit_sealer_init, member, *_in(key, nonce), *_aad(aad))
+        self._struct = _Struct(lib.SEALER, member, lib.aeadkit_sealer_init, member, *_in(key, nonce, _aad(aad)))
 
     def update(self, piece: Buffer) -> bytes:
         """Returns the ciphertext of the next piece of the text, which may have any length."""
@@ -340,7 +340,7 @@ class Opener(_InPieces):
 
     def __init__(self, suite: int, key: Buffer, nonce: Buffer, tag: Buffer, *, aad: Optional[Buffer] = None) -> None:
         member = _suite(suite)
-        self._struct = _Struct(lib.OPENER, member, lib.aeadkit_opener_init, member, *_in(key, nonce), *_aad(aad), _tag(tag))
+        self._struct = _Struct(lib.OPENER, member, lib.aeadkit_opener_init, member, *_in(key, nonce, _aad(aad)), _tag(tag))
 
     def check(self, piece: Buffer) -> None:
         """Takes the next piece of the ciphertext in the first pass."""
@@ -375,7 +375,7 @@ class SivSealer(_InPieces):
 
     def __init__(self, suite: int, key: Buffer, nonce: Buffer, *, aad: Optional[Buffer] = None) -> None:
         member = _suite(suite)
-        self._struct = _Struct(lib.SIV, member, lib.aeadkit_siv_init, member, *_in(key, nonce), *_aad(aad))
+        self._struct = _Struct(lib.SIV, member, lib.aeadkit_siv_init, member, *_in(key, nonce, _aad(aad)))
 
     def absorb(self, piece: Buffer) -> None:
         """Takes the next piece of the text in the first pass."""

@@ -1,8 +1,9 @@
 """Seals or opens a text of any size in segments, from pipe to pipe: segments.py seal|open KEYFILE LABEL < IN > OUT
 
-KEYFILE holds a wrapping key of 32 random bytes. OUT begins with a head: MAGIC, and a data key of this text's own, wrapped. Each
-segment is sealed under the data key. Its nonce is its number and a byte that is 1 in the last segment alone, and its
-associated data is the head and LABEL. So a changed, moved or missing segment is refused, and so is a text that was cut.
+KEYFILE holds a wrapping key of 32 random bytes. OUT begins with a head of 48 bytes: MAGIC, the length of a segment's text in 4
+bytes with the highest first, and a data key of this text's own, wrapped. Each segment is sealed under the data key. Its nonce
+is its number and a byte that is 1 in the last segment alone, and its associated data is the head and LABEL. So a changed,
+moved or missing segment is refused, and so is a text that was cut. packages/c/examples/backup.c has this format too.
 
 Opening writes a segment as soon as it is authentic. If a later one is refused, the status is 1: throw OUT away.
 """
@@ -14,12 +15,12 @@ from typing import BinaryIO, Iterator, Tuple
 from aeadkit import InvalidTag, Key, Suite
 from aeadkit.keywrap import InvalidUnwrap, aes_key_unwrap, aes_key_wrap
 
-# The format, which is that of packages/c/examples/backup.c.
-MAGIC = b"SEGMENT1"
+# The format.
+MAGIC = b"SEG1"
 SUITE = Suite.CHACHA20_POLY1305
 KEY = 32
-HEAD = len(MAGIC) + KEY + 8  # the wrapped data key is 8 bytes longer
-SEGMENT = 1 << 20  # bytes of text in each segment but the last, which may be shorter, or empty
+HEAD = 8 + KEY + 8  # the wrapped data key is 8 bytes longer
+SEGMENT = 1 << 20  # the most bytes of text in a segment; the last one may be shorter, or empty
 TAG = 16
 
 
@@ -38,7 +39,7 @@ def segments(source: BinaryIO, size: int) -> Iterator[Tuple[bytes, bytes]]:
 
 def seal(wrapping_key: bytes, label: bytes, source: BinaryIO, target: BinaryIO) -> None:
     data_key = os.urandom(KEY)
-    head = MAGIC + aes_key_wrap(wrapping_key, data_key)
+    head = MAGIC + SEGMENT.to_bytes(4, "big") + aes_key_wrap(wrapping_key, data_key)
     target.write(head)
     with Key(SUITE, data_key) as key:
         for once, text in segments(source, SEGMENT):
@@ -47,10 +48,11 @@ def seal(wrapping_key: bytes, label: bytes, source: BinaryIO, target: BinaryIO) 
 
 def open_sealed(wrapping_key: bytes, label: bytes, source: BinaryIO, target: BinaryIO) -> None:
     head = source.read(HEAD)
-    if not head.startswith(MAGIC):
-        raise InvalidUnwrap("not a text that segments.py sealed")
-    with Key(SUITE, aes_key_unwrap(wrapping_key, head[len(MAGIC):])) as key:
-        for once, sealed in segments(source, SEGMENT + TAG):
+    size = int.from_bytes(head[4:8], "big")
+    if not head.startswith(MAGIC) or not 0 < size <= SEGMENT:
+        raise InvalidUnwrap("not a text in segments")
+    with Key(SUITE, aes_key_unwrap(wrapping_key, head[8:])) as key:
+        for once, sealed in segments(source, size + TAG):
             target.write(key.open(once, sealed, aad=head + label))
 
 

@@ -60,6 +60,9 @@ class Documents(unittest.TestCase):
                 made = segments("open", *words)
                 self.assertEqual((made.returncode, made.stderr[:13]), (1, b"segments.py: "))
                 self.assertTrue(text.startswith(made.stdout) and made.stdout != text)
+            sample = FOLDER.parent / "c/examples/sample.segments"  # which backup.c opens too
+            key.write_bytes(b"a key of 32 bytes for the sample")
+            self.assertEqual(segments("open", sample.read_bytes(), "sample").stdout[:21], b"The parcel leaves at ")
             key.write_bytes(bytes(16))
             self.assertIn(b"KEYFILE is not 32 bytes long", segments("seal", b"text").stderr)
 
@@ -67,16 +70,13 @@ class Documents(unittest.TestCase):
 class Library(unittest.TestCase):
     def setUp(self):
         """A copy of the package, without a library."""
-        self.folder = pathlib.Path(self.enterContext(tempfile.TemporaryDirectory()))
+        folder = tempfile.TemporaryDirectory()
+        self.addCleanup(folder.cleanup)
+        self.folder = pathlib.Path(folder.name)
         (self.folder / "aeadkit/lib").mkdir(parents=True)
         for file in pathlib.Path(aeadkit.__file__).parent.glob("*.py"):
             shutil.copy(file, self.folder / "aeadkit")
         self.file = self.folder / "aeadkit/lib/libaeadkit.so"
-
-    if sys.version_info < (3, 11):
-        def enterContext(self, manager):
-            self.addCleanup(manager.__exit__, None, None, None)
-            return manager.__enter__()
 
     def build(self, version=30000, **sizes):
         source = f"unsigned aeadkit_version(void) {{ return {version}; }}\n" if version else "int nothing;\n"

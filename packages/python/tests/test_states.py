@@ -17,7 +17,7 @@ KEY = bytes(range(32))
 NONCE = bytes(range(12))
 TAG = bytes(16)
 SIV = Suite.AES_128_GCM_SIV
-LONG = 1 << 20  # a call over so many bytes takes long enough for another thread to come in between
+LONG = 2 << 20  # a call over so many bytes takes long enough for another thread to come in between
 
 
 def states():
@@ -80,7 +80,7 @@ class Threads(unittest.TestCase):
         opener.finish()
 
     def test_both_passes_of_a_siv_sealing(self):
-        size = LONG // 8
+        size = LONG // 16
         expected, sealer = Key(SIV, KEY[:16]).seal(NONCE, bytes(2 * size)), SivSealer(SIV, KEY[:16], NONCE)
         at_once(*[lambda: sealer.absorb(bytes(size))] * 2)
         self.assertEqual(sealer.begin_second(), expected[-16:])

@@ -3,13 +3,15 @@
 use aeadkit::{Aad, Key, Suite, Tag};
 use std::io::{self, Cursor, Error, ErrorKind, Read, Seek, Write};
 
-/// Runs a step on each piece of a source.
+/// Runs a step on each piece of a source, up to its end.
 fn each_piece(from: &mut impl Read, mut step: impl FnMut(&mut [u8]) -> io::Result<()>) -> io::Result<()> {
     let mut buffer = vec![0; 1 << 16];
     loop {
-        match from.read(&mut buffer)? {
-            0 => return Ok(()),
-            length => step(&mut buffer[..length])?,
+        match from.read(&mut buffer) {
+            Ok(0) => return Ok(()),
+            Ok(length) => step(&mut buffer[..length])?,
+            Err(error) if error.kind() == ErrorKind::Interrupted => {}
+            Err(error) => return Err(error),
         }
     }
 }
@@ -36,6 +38,7 @@ fn open(
 ) -> io::Result<()> {
     let invalid = |error| Error::new(ErrorKind::InvalidData, error);
     let mut opener = key.opener(nonce, tag, aad).map_err(invalid)?;
+    from.rewind()?;
     each_piece(from, |piece| opener.check(piece).map_err(invalid))?;
     let mut opener = opener.begin_second().map_err(invalid)?;
     from.rewind()?;

@@ -1,0 +1,12 @@
+# A program takes any version from the one that it asks for up to the next major version.
+set(PACKAGE_VERSION "0.0.0")
+string(REGEX MATCH "^[0-9]+" aeadkit_major "${PACKAGE_VERSION}")
+if(PACKAGE_FIND_VERSION VERSION_EQUAL PACKAGE_VERSION)
+  set(PACKAGE_VERSION_EXACT TRUE)
+endif()
+if(PACKAGE_FIND_VERSION_MAJOR EQUAL aeadkit_major AND NOT PACKAGE_VERSION VERSION_LESS PACKAGE_FIND_VERSION)
+  set(PACKAGE_VERSION_COMPATIBLE TRUE)
+else()
+  set(PACKAGE_VERSION_COMPATIBLE FALSE)
+endif()
+unset(aeadkit_major)
