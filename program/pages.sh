@@ -39,7 +39,7 @@ faults() {
 {
     echo ".TH AEADKIT 1 \"\" \"$version\" \"User Commands\""
     echo '.SH NAME'
-    echo "$help" | sed -n '1s/^/aeadkit \\- /p'
+    echo "$help" | awk '/^Usage:/ { print "aeadkit \\- " last; exit } NF { last = $0 }'
     for name in '' $names; do
         echo ".SH $(echo "${name:-synopsis}" | tr 'a-z' 'A-Z')"
         echo '.nf'

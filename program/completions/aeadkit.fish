@@ -10,7 +10,7 @@ complete -c aeadkit -n '__fish_seen_subcommand_from help' -a "$commands"
 complete -c aeadkit -n '__fish_seen_subcommand_from check' -F
 for command in (string match -v help $commands)
     for option in (aeadkit help $command | string match -rg '^ +(?:-h, )?--([a-z-]+ *(?:<[A-Z]+>)?)')
-        set -l name (string replace -r ' *<.*' '' $option)
+        set -l name (string replace -r '[ <].*' '' $option)
         set -l begin complete -c aeadkit -n "__fish_seen_subcommand_from $command" -l $name
         switch $option
             case '*<SUITE>'
