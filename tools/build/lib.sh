@@ -162,11 +162,11 @@ dist() {
     tar -C "$build" -czf "$out/${prefix##*/}.tar.gz" --owner=0 --group=0 "${prefix##*/}"
     cp -R "$top/packages/rust" "$crate"
     for folder in lib lib/x86-64-v3; do
-        install -D -m 644 "$prefix/$folder/libaeadkit.a" "$crate/$folder/libaeadkit.a"
+        [ ! -e "$prefix/$folder/libaeadkit.a" ] || install -D -m 644 "$prefix/$folder/libaeadkit.a" "$crate/$folder/libaeadkit.a"
     done
     (cd "$crate" && CARGO_TARGET_DIR="$build/cargo" cargo package --quiet --offline --no-verify --allow-dirty)
     cp "$build/cargo/package/aeadkit-$version.crate" "$out/"
-    AEADKIT_PREFIX=$prefix python3 "$top/packages/python/backend.py" "$out"
+    AEADKIT_PREFIX=$prefix PYTHONDONTWRITEBYTECODE=1 python3 "$top/packages/python/backend.py" "$out"
     wasm
     (cd "$out" && npm pack --silent "$prefix/share/aeadkit/javascript" && sha256sum -- * > ../SHA256SUMS && mv ../SHA256SUMS .)
 }
