@@ -27,7 +27,7 @@ override PREFIX := $(abspath $(PREFIX))
 export BUILD BUILDS PROGRAM
 
 packages := check-c check-rust check-python check-javascript
-.PHONY: help library wasm program pages install check check-documents check-program dist bench constant-time $(packages)
+.PHONY: help library wasm program install check check-documents check-program dist bench constant-time $(packages)
 help:
 	@sed -n '3,18s/^# \{0,1\}//p' Makefile
 
@@ -47,9 +47,8 @@ wasm:
 	tools/build/lib.sh wasm "$(PREFIX)"
 program:
 	tools/build/lib.sh program "$(PREFIX)"
-pages: $(PREFIX)/bin/aeadkit
+install: library program
 	program/pages.sh "$(PREFIX)/bin/aeadkit" "$(PREFIX)/share"
-install: library program pages
 dist:
 	tools/build/lib.sh dist
 

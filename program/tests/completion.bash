@@ -34,12 +34,10 @@ completed '[unwrap]' aeadkit help u
 completed '[--nonce]' aeadkit seal --n
 completed '[chacha20-poly1305]' aeadkit seal --suite ch
 completed '[chacha20-poly1305]' aeadkit seal --suite = ch
-completed '[--suite=chacha20-poly1305]' aeadkit seal --suite=ch
 completed '[aes-128-gcm-siv]' aeadkit seal-file --key 00 --suite = aes-128-gcm-
 completed '[]' aeadkit seal --key = ''
 named '[my file]' aeadkit seal-file --in my
 named '[my file]' aeadkit seal-file --in = my
-named '[--in=my file]' aeadkit seal-file --in=my
 named '[my file]' aeadkit seal-file --in 'my\ f'
 named '[sub dir/inner one]' aeadkit open-file --suite = aes-128-gcm --out = 'sub\ dir/i'
 named '[st*r][stone]' aeadkit open-file --out st

@@ -8,9 +8,10 @@ exports=$top/packages/c/exports.map
 version=$(sed -n 's/^pub const VERSION: &str = "\(.*\)";$/\1/p' "$top/crates/command/src/version.rt")
 major=${version%%.*}
 
-# Prints a file with the version in the place of 0.0.0: filled FILE
+# Prints a file with the version in the place of 0.0.0, and with its numbers in the macros of the header: filled FILE
 filled() {
-    sed "s/0\.0\.0/$version/" "$1"
+    rest=${version#*.}
+    sed -E "s/0\.0\.0/$version/; s/(VERSION_MAJOR) 0\$/\1 $major/; s/(VERSION_MINOR) 0\$/\1 ${rest%.*}/; s/(VERSION_PATCH) 0\$/\1 ${rest#*.}/" "$1"
 }
 
 # Brings BUILD/KIND, a copy of the crates, up to date, and sets `room` to it: copied KIND
@@ -161,11 +162,11 @@ dist() {
     tar -C "$build" -czf "$out/${prefix##*/}.tar.gz" --owner=0 --group=0 "${prefix##*/}"
     cp -R "$top/packages/rust" "$crate"
     for folder in lib lib/x86-64-v3; do
-        install -D -m 644 "$prefix/$folder/libaeadkit.a" "$crate/$folder/libaeadkit.a"
+        [ ! -e "$prefix/$folder/libaeadkit.a" ] || install -D -m 644 "$prefix/$folder/libaeadkit.a" "$crate/$folder/libaeadkit.a"
     done
     (cd "$crate" && CARGO_TARGET_DIR="$build/cargo" cargo package --quiet --offline --no-verify --allow-dirty)
     cp "$build/cargo/package/aeadkit-$version.crate" "$out/"
-    AEADKIT_PREFIX=$prefix python3 "$top/packages/python/backend.py" "$out"
+    AEADKIT_PREFIX=$prefix PYTHONDONTWRITEBYTECODE=1 python3 "$top/packages/python/backend.py" "$out"
     wasm
     (cd "$out" && npm pack --silent "$prefix/share/aeadkit/javascript" && sha256sum -- * > ../SHA256SUMS && mv ../SHA256SUMS .)
 }

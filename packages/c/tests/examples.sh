@@ -2,6 +2,7 @@
 # Runs the examples on whole and on damaged messages, files, wrappings and backups: examples.sh FOLDER of the programs
 set -eu
 bin=$(cd "$1" && pwd)
+sample=$(cd "$(dirname "$0")/../examples" && pwd)/sample.segments
 room=$(mktemp -d)
 trap 'rm -rf "$room"' EXIT
 cd "$room"
@@ -106,4 +107,8 @@ refused key label
 cp sealed changed
 refused key another-label
 refused another-key label
+# The sample opens in Python too.
+printf 'a key of 32 bytes for the sample' > key
+does 0 backup open key sample < "$sample"
+[ "$(cat out)" = "The parcel leaves at nine, and the letter at ten." ]
 echo "ok: the examples"

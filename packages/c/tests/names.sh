@@ -14,7 +14,7 @@ same() {
 }
 node=$(grep -o '^AEADKIT_[0-9]*' "$map")
 grep -oE 'aeadkit_[a-z_]+' "$map" | sort > "$out/exports"
-sed -nE 's/^[a-z].*[ *](aeadkit_[a-z_]+)\(.*/\1/p' "$prefix/include/aeadkit.h" | grep -v aeadkit_strerror | sort > "$out/declared"
+sed -nE 's/^[A-Za-z].*[ *](aeadkit_[a-z_]+)\(.*/\1/p' "$prefix/include/aeadkit.h" | grep -v aeadkit_status_string | sort > "$out/declared"
 same "$out/exports" "$out/declared" aeadkit.h
 
 # Each name is that of this major version. No function is called but four of the C library.
