@@ -10,10 +10,10 @@ export ASAN_OPTIONS=detect_leaks=0
 
 # Runs an example, which has to end with STATUS: does STATUS WORD..
 does() {
-    expected=$1 status=0
-    shift
-    "$bin/$@" > out 2> fault || status=$?
-    [ $status = "$expected" ] || { echo "$* ends with $status and not $expected:" >&2; cat fault >&2; exit 1; }
+    expected=$1 example=$2 status=0
+    shift 2
+    "$bin/$example" "$@" > out 2> fault || status=$?
+    [ $status = "$expected" ] || { echo "$example $* ends with $status and not $expected:" >&2; cat fault >&2; exit 1; }
 }
 # Copies a file with one byte changed: damaged FILE PLACE COPY
 damaged() {
