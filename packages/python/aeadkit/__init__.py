@@ -169,7 +169,8 @@ class _Struct:
     """A struct of the library, begun by a call. It is wiped when neither an object nor a call uses it any more."""
 
     def __init__(self, kind: lib.Kind, suite: Suite, begin: Callable[..., int], *words: Any) -> None:
-        self.suite, self.process, self.lock = suite, os.getpid(), threading.RLock()
+        self.suite, self.process = suite, os.getpid()
+        self.lock = threading.RLock()  # not Lock: a signal handler may call while its thread holds it
         self._wipe, self._memory = kind.wipe, kind.memory()
         self._as_parameter_ = ctypes.addressof(self._memory)
         _check(begin(self, *words))

@@ -73,6 +73,11 @@ class Threads(unittest.TestCase):
             with ThreadPoolExecutor(8) as pool:
                 self.assertTrue(all(pool.map(round_trip, range(100))))
 
+    def test_a_signal_handler_may_call_too(self):
+        """It interrupts a thread that may hold the lock."""
+        lock = Sealer(CHACHA, KEY, NONCE)._struct.lock
+        self.assertTrue(lock.acquire() and lock.acquire(blocking=False))
+
 
 class Closing(unittest.TestCase):
     def test_the_memory_is_wiped(self):
