@@ -43,5 +43,5 @@ int main(int count, char **words) {
                                                                  aad, strlen(aad), tag));
     if (opens_in_place) printf("%.*s\n", TEXT, (const char *)place); /* otherwise `place` is still the ciphertext */
     explicit_bzero(key, KEY);
-    return fclose(stdout) || !opens || !opens_in_place; /* a text that was not written does not count */
+    return ferror(stdout) || fclose(stdout) || !opens || !opens_in_place; /* a text that was not written does not count */
 }
