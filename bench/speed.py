@@ -1,10 +1,10 @@
 #!/usr/bin/env python3
-"""Writes the tables of docs/SPEED.md and the plot of docs/pictures/speed.svg from the figures that bench.sh measured.
+"""Writes the tables of README.md and docs/SPEED.md and the plot docs/pictures/speed.svg from the figures that measure.py wrote.
 
-speed.py [--write]: without the option it compares, and the status is 1 if something is stale. docs/speed.tsv has the figures:
-lines of the build of the library, and what bench.c writes behind --data."""
+speed.py [--write]: without the option it compares, and the status is 1 if something is stale."""
 import math
 import pathlib
+import re
 import sys
 
 TOP = pathlib.Path(__file__).resolve().parent.parent
@@ -45,28 +45,51 @@ def table(found, build, peers, keys):
     return "\n".join(lines)
 
 
+def gigabytes(length, time):
+    return f"{length / time:.2f}"
+
+
+def long_texts(found):
+    """Returns the table of GB/s over 1 MiB, whole and in pieces, and over the program's file."""
+    manners = {"whole": "whole", "64 KiB": "in pieces of 64 KiB", "16 KiB": "of 16 KiB", "1 KiB": "of 1 KiB", "aeadkit": "a file"}
+    lines = ["| | | " + " | ".join(manners.values()) + " |", "|---|---|" + "---|" * len(manners)]
+    rows = {}
+    for (_, _, keys, kind, direction, length), of in found.items():
+        if keys in ("pieces", "file"):
+            rows.setdefault((kind, direction), {}).update({manner: gigabytes(length, time) for manner, time in of.items()})
+    return "\n".join(lines + [f"| {kind} | {direction} | " + " | ".join(rates[manner] for manner in manners) + " |"
+                              for (kind, direction), rates in rows.items()])
+
+
+def sides(found, build, peers, kind, length):
+    """Returns the library's time of sealing under a new key, and {peer: time}."""
+    of = dict(found[build, peers, "new", kind, "sealing", length])
+    return of.pop("aeadkit"), of
+
+
+def summary(found):
+    """Returns the table of README: GB/s of sealing 16 KiB under a new key."""
+    lines = ["| | any x86-64 processor | with AVX2 | the fastest of the others |", "|---|---|---|---|"]
+    for kind in ("ChaCha20-Poly1305", "AES-256-GCM", "AES-256-GCM-SIV"):
+        plain, _ = sides(found, "default", "plain", kind, 16384)
+        wide, others = sides(found, "avx2", "all", kind, 16384)
+        best = min(others, key=others.get)
+        lines.append(f"| {kind} | {gigabytes(16384, plain)} | {gigabytes(16384, wide)} | {gigabytes(16384, others[best])}, {best} |")
+    return "\n".join(lines)
+
+
 def plot(found):
     """Returns the picture of sealing under new keys: bytes in a second over the length of a text."""
     kinds = ["ChaCha20-Poly1305", "AES-256-GCM", "AES-256-GCM-SIV"]
     width, height, top, low, high = 200, 150, 48, math.log10(5), math.log10(6000)
-    out = ['<svg xmlns="http://www.w3.org/2000/svg" viewBox="0 0 780 262" font-family="sans-serif" font-size="11">',
+    out = ['<svg xmlns="http://www.w3.org/2000/svg" viewBox="0 0 790 256" font-family="sans-serif" font-size="11">',
            "<style>text{fill:#333}.grid{stroke:#ccc}.own{stroke:#0b62a4;fill:#0b62a4}.wide{stroke:#5aa9e6;fill:#5aa9e6}"
            ".peer{stroke:#c0392b;fill:#c0392b}polyline{fill:none!important;stroke-width:2}"
            "@media (prefers-color-scheme:dark){text{fill:#ddd}.grid{stroke:#555}}</style>"]
 
-    def rates(kind, build, peers, choose):
-        values = []
-        for length in LENGTHS:
-            of = found.get((build, peers, "new", kind, "sealing", length), {})
-            times = choose(of)
-            values.append(length / min(times) * 1000 if times else None)
-        return values
-
-    def own(of):
-        return [of["aeadkit"]] if "aeadkit" in of else []
-
-    def others(of):
-        return [time for party, time in of.items() if party != "aeadkit"]
+    def rates(kind, build, peers, own):
+        of = [(length, sides(found, build, peers, kind, length)) for length in LENGTHS]
+        return [1000 * length / (time if own else min(others.values())) for length, (time, others) in of]
 
     for k, kind in enumerate(kinds):
         left = 56 + k * 244
@@ -83,32 +106,31 @@ def plot(found):
         for i, length in enumerate(LENGTHS):
             name = size(length).replace(" bytes", "").replace(" KiB", "K")
             out.append(f'<text x="{left + i * width / 5:.1f}" y="{top + height + 14}" text-anchor="middle">{name}</text>')
-        for style, dash, values in (
-                ("own", "", rates(kind, "default", "plain", own)), ("wide", "", rates(kind, "avx2", "avx2", own)),
-                ("peer", ' stroke-dasharray="5 3"', rates(kind, "avx2", "avx2", others)),
-                ("peer", "", rates(kind, "avx2", "all", others) if "SIV" not in kind else [None] * 6)):
-            points = " ".join(at(i, rate) for i, rate in enumerate(values) if rate)
-            if points:
-                out.append(f'<polyline class="{style}" points="{points}"{dash}/>')
-    for x, style, dash, name in ((56, "own", "", "aeadkit, default build"), (226, "wide", "", "aeadkit, with AVX2"),
-                                 (376, "peer", ' stroke-dasharray="5 3"', "best peer, AVX2 without AES instructions"),
-                                 (640, "peer", "", "best peer as shipped")):
+        for style, dash, values in (("own", "", rates(kind, "default", "plain", True)), ("wide", "", rates(kind, "avx2", "avx2", True)),
+                                    ("peer", ' stroke-dasharray="5 3"', rates(kind, "avx2", "avx2", False)),
+                                    ("peer", "", rates(kind, "avx2", "all", False))):
+            points = " ".join(at(i, rate) for i, rate in enumerate(values))
+            out.append(f'<polyline class="{style}" points="{points}"{dash}/>')
+    for x, style, dash, name in ((56, "own", "", "aeadkit, default build"), (216, "wide", "", "aeadkit with AVX2"),
+                                 (354, "peer", ' stroke-dasharray="5 3"', "best peer with AVX2, no AES instructions"),
+                                 (634, "peer", "", "best peer as shipped")):
         out.append(f'<polyline class="{style}" points="{x},240 {x + 24},240"{dash}/><text x="{x + 30}" y="244">{name}</text>')
     return "\n".join(out + ["</svg>", ""])
 
 
 def main():
     found, stale = figures(), []
-    page = TOP / "docs/SPEED.md"
-    old = text = page.read_text()
-    for build, peers, keys in (("default", "plain", "new"), ("avx2", "avx2", "new"), ("default", "plain", "kept"),
-                               ("avx2", "avx2", "kept"), ("default", "all", "new"), ("avx2", "all", "new")):
-        mark = f"<!-- speed.py: {build} {peers} {keys} -->"
-        if mark in text:
-            before, _, after = text.partition(mark)
-            rest = after.split("\n\n", 2)[-1]
-            text = f"{before}{mark}\n\n{table(found, build, peers, keys)}\n\n{rest}"
-    for path, new in ((page, text), (TOP / "docs/pictures/speed.svg", plot(found))):
+    made = {"long texts": long_texts(found), "summary": summary(found)}
+    for words in ("default plain new", "avx2 avx2 new", "default plain kept", "avx2 avx2 kept", "avx2 all new"):
+        made[words] = table(found, *words.split())
+
+    def filled(name):
+        """Returns a document with its tables: each follows a mark, and ends at an empty line."""
+        return re.sub(r"(<!-- speed\.py: (.*?) -->\n\n).*?\n\n", lambda mark: f"{mark[1]}{made[mark[2]]}\n\n",
+                      (TOP / name).read_text(), flags=re.DOTALL)
+
+    for path, new in [(TOP / name, filled(name)) for name in ("README.md", "docs/SPEED.md")] + [
+            (TOP / "docs/pictures/speed.svg", plot(found))]:
         if not path.exists() or path.read_text() != new:
             stale.append(path.name)
             if "--write" in sys.argv[1:]:
@@ -116,7 +138,7 @@ def main():
                 path.write_text(new)
     if stale and "--write" not in sys.argv[1:]:
         sys.exit(f"stale: {', '.join(stale)}; bench/speed.py --write writes them")
-    print("ok: docs/SPEED.md and its plot have the figures of docs/speed.tsv")
+    print("ok: the tables and the plot have the figures of docs/speed.tsv")
 
 
 if __name__ == "__main__":
