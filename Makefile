@@ -5,7 +5,7 @@
 #   make install PREFIX=DIR   the library and the program, with the header, pages, completions and documents
 #   make check                every test below
 #   make check-NAME           one of documents, c, rust, python, javascript, program
-#   make check STANDIN=1      the packages over an unproved stand-in of the library, without the toolchain, in a minute
+#   make check STANDIN=1      the packages over an unproved stand-in of the library, without the toolchain, in two minutes
 #   make dist                 a tarball for C, a crate, a wheel, an npm package and SHA256SUMS, in BUILD/dist
 #   make bench                the speed of the library beside other libraries on this machine; WORDS="--kept 5"
 #   make constant-time        branches and addresses that depend on secrets; WORDS=--short

@@ -14,14 +14,12 @@
 #   its own OUT.how, only if its label is the same: let the label say what the file is, and when it was sealed;
 # - a nonce that comes twice: it is drawn at random for each file, and a repeat under AES-GCM-SIV gives away only whether text
 #   and label were the same.
-# OUT must not exist. It is written under another name, and gets its own after status 0. If another file has got the name
-# meanwhile, that file stays, and the status is 3.
+# OUT must not exist. It is written under another name, and gets its own after status 0.
 #
 # Status: 0 done; 1 not authentic: changed, cut, or sealed under another key, suite, nonce or label; 2 wrong words, key or
 # OUT.how; 3 a file failed, or changed while it was read; 4 out of memory.
 set -eu
 suite=aes-256-gcm-siv
-usage="usage: files.sh seal|open KEYFILE LABEL IN OUT"
 
 fail() {
     echo "files.sh: $2" >&2
@@ -33,7 +31,7 @@ hex() {
     od -An -v -tx1 | tr -d ' \n'
 }
 
-# Runs a file command of the program from IN to the new name: run COMMAND. It comes back if OUT is whole.
+# Runs a file command of the program from IN to the new name: run COMMAND. It comes back if the new file is whole.
 run() {
     status=0
     "${AEADKIT:-aeadkit}" "$1" --suite "$suite" --key "$key" --nonce "$nonce" --aad "$(printf %s "$label" | hex)" \
@@ -48,42 +46,30 @@ run() {
     esac
 }
 
-[ $# = 5 ] || fail 2 "$usage"
+[ $# = 5 ] || fail 2 "usage: files.sh seal|open KEYFILE LABEL IN OUT"
 key_file=$2 label=$3 in=$4 out=$5
 case $label in *"
 "*) fail 2 "a label is one line" ;; esac
-case $in in /*) ;; *) in=./$in ;; esac # so that a name that begins with - is not taken for an option
-case $out in /*) ;; *) out=./$out ;; esac
+case $in in -*) in=./$in ;; esac # a name that begins with - is not an option
+case $out in -*) out=./$out ;; esac
 [ ! -e "$out" ] || fail 2 "$out exists"
 key=$(cat -- "$key_file") || fail 2 "$key_file can't be read"
 new=$(mktemp "$out.XXXXXX") || fail 3 "$out can't be written"
 trap 'rm -f "$new" "$new.how"' EXIT
-trap 'exit 3' HUP INT TERM
 case $1 in
 seal)
     how=$out.how
-    # made at once or not at all: of two runs with one OUT, each could otherwise leave one of the two files
-    (set -C && : > "$how") 2> /dev/null || fail 2 "$how exists"
-    trap 'rm -f "$new" "$new.how" "$how"' EXIT
-    nonce=$(od -An -v -tx1 -N12 /dev/urandom | tr -d ' \n')
+    nonce=$(head -c 12 /dev/urandom | hex)
     run seal-file
     printf 'suite=%s\nnonce=%s\nlabel=%s\n' "$suite" "$nonce" "$label" > "$new.how" || fail 3 "$how can't be written"
-    sync # a sealed file whose nonce is lost is lost too
-    mv "$new.how" "$how" || fail 3 "$how can't be written"
-    trap 'rm -f "$new"' EXIT
-    ;;
+    mv "$new.how" "$how" || fail 3 "$how can't be written" ;;
 open)
     how=$in.how
     [ -r "$how" ] || fail 3 "$how can't be read"
     suite=$(sed -n 's/^suite=//p' "$how")
     nonce=$(sed -n 's/^nonce=//p' "$how")
     [ "$label" = "$(sed -n 's/^label=//p' "$how")" ] || fail 1 "$in has another label"
-    run open-file
-    ;;
-*) fail 2 "$usage" ;;
+    run open-file ;;
+*) fail 2 "usage: files.sh seal|open KEYFILE LABEL IN OUT" ;;
 esac
-# ln, unlike mv, replaces no file that got the name meanwhile. Where a file can't have two names, mv is what is left.
-if [ -e "$out" ] || ! { ln "$new" "$out" 2> /dev/null || { [ ! -e "$out" ] && mv "$new" "$out"; }; }; then
-    [ "$1" = open ] || rm -f "$how"
-    fail 3 "$out was made meanwhile, or can't be written"
-fi
+mv "$new" "$out" || fail 3 "$out can't be written"

@@ -128,7 +128,7 @@ wasm() {
     rm "$clang"
     printf '#!/bin/sh\nexec "%s" "$@" -msimd128\n' "$kit/toolchain/bin/clang" > "$clang"
     chmod +x "$clang"
-    RT=$room/kit/bin/rt
+    PATH=$room/kit/bin:$PATH
     proved capi lib
     javascript "$room/crates/capi/out/capi.wasm"
 }
