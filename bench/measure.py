@@ -37,7 +37,7 @@ def files(program, room):
         key = ["--suite", suite.lower(), "--key", os.urandom(length).hex(), "--nonce", os.urandom(12).hex()]
         for direction, command, source, made in (("sealing", "seal-file", text, sealed), ("opening", "open-file", sealed, opened)):
             times = []
-            for _ in range(3):
+            for _ in range(7):
                 made.unlink(missing_ok=True)
                 times.append(processor_time(program, command, *key, "--in", source, "--out", made))
             yield f"default\t{suite}\t{direction}\t{FILE}\taeadkit\tplain\tfile\t{min(times):.0f}"
