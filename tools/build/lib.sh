@@ -154,17 +154,17 @@ standin_wasm() {
 dist() {
     out=$build/dist
     prefix=$build/aeadkit-$version-x86_64-linux
-    crate=$build/aeadkit-$version
-    rm -rf "$out" "$prefix" "$crate"
+    package=$build/aeadkit-$version
+    rm -rf "$out" "$prefix" "$package"
     mkdir -p "$out"
     library
     cp "$top/packages/c/README.md" "$prefix/"
     tar -C "$build" -czf "$out/${prefix##*/}.tar.gz" --owner=0 --group=0 "${prefix##*/}"
-    cp -R "$top/packages/rust" "$crate"
+    cp -R "$top/packages/rust" "$package"
     for folder in lib lib/x86-64-v3; do
-        [ ! -e "$prefix/$folder/libaeadkit.a" ] || install -D -m 644 "$prefix/$folder/libaeadkit.a" "$crate/$folder/libaeadkit.a"
+        [ ! -e "$prefix/$folder/libaeadkit.a" ] || install -D -m 644 "$prefix/$folder/libaeadkit.a" "$package/$folder/libaeadkit.a"
     done
-    (cd "$crate" && CARGO_TARGET_DIR="$build/cargo" cargo package --quiet --offline --no-verify --allow-dirty)
+    (cd "$package" && CARGO_TARGET_DIR="$build/cargo" cargo package --quiet --offline --no-verify --allow-dirty)
     cp "$build/cargo/package/aeadkit-$version.crate" "$out/"
     AEADKIT_PREFIX=$prefix PYTHONDONTWRITEBYTECODE=1 python3 "$top/packages/python/backend.py" "$out"
     wasm
