@@ -116,6 +116,8 @@ impl Multiply for TableMul {
 }
 
 impl Keyed128 for TableMul {
+    // Inlined, since a call would move the multiples.
+    #[inline(always)]
     fn of(key: &Block) -> TableMul {
         TableMul::of_word(word_of(key.bytes()))
     }

@@ -209,7 +209,8 @@ impl Multiply for WideMul {
         self.first.times_word(x)
     }
 
-    #[inline(always)]
+    // A call of its own: inlined where the multiplier is chosen at run time, it would make the caller's frame 2 KiB longer.
+    #[inline(never)]
     fn times_all<O: HashOrder>(&self, sum: u128, blocks: &[[u8; 16]]) -> u128 {
         let (fours, rest) = blocks.as_chunks::<4>();
         let taken = self.times_runs::<O>(sum, fours);
