@@ -10,29 +10,21 @@ use Rattle.std.proofs.lemmas.List.{take-append-le, take-take}
 use Rattle.std.proofs.lemmas.Slice.Eq.{bytes_eq-Decides}
 use Rattle.octets.specs.Masked.{masked}
 use Rattle.octets.specs.declared.work.Order.{Order}
-use Rattle.aes.specs.Cipher.{IsKey}
 use Rattle.octets.proofs.Devices.{consumes_more}
 use Rattle.octets.proofs.Masks.{take-masked}
-use Rattle.aead.specs.declared.masking.Masking.{Masking}
-use Rattle.aead.specs.declared.authenticator.Authenticator.{Authenticator}
+use Rattle.aead.specs.declared.engine.stage.Masking.{Masking}
+use Rattle.aead.specs.declared.engine.stage.Reading.{Reading}
 use Rattle.aead.specs.declared.engine.passes.Finding.{Finding}
 use Rattle.aead.specs.declared.engine.passes.Finding.TheVariants.{Differs, Unsealed, Sealed}
-use Rattle.aead.specs.Suites.{construction_of, is_one_pass, ByGcm}
+use Rattle.aead.specs.Suites.{construction_of, is_one_pass}
 use Rattle.aead.specs.Sealing.{Setting, Fits, Opened, IsNoSealing, mask_of, tag_of, tag_over}
-use Rattle.aead.specs.Code.States.{HoldsAuthenticator}
-use Rattle.aead.specs.Code.Maskings.{HoldsMasking, message_task}
+use Rattle.aead.specs.Pieces.{MasksByBytes}
+use Rattle.aead.specs.Code.Maskings.{HoldsMasking, HoldsReading, message_task}
 use Rattle.aead.specs.Code.Passes.{HasFilledRoom, Stopped}
 use Rattle.aead.specs.Code.Findings.{IsFinding, MakesTag, PassesBody, HasPassedReading, Tail}
-use Rattle.aead.proofs.ByteMasks.{masked_small, mask_small}
+use Rattle.aead.proofs.ByteMasks.{masked_small}
 use Rattle.aead.proofs.Passing.{masked_by_zeros}
 use Rattle.aead.proofs.Opens.{unmasked, no_sealing, opened_as, body_tag}
-
--- the lengths that an opening has taken in are allowed
-pub opening_fits : {S H : Type 0} (made : S → Setting → List ℕ → ℕ → Type 0)
-    (held : H → Setting → List ℕ → Type 0) (order : Order) (k : Masking S H) (s : Setting) (tag body : List ℕ)
-    → HoldsMasking made held (message_task order s tag) k body → Fits s body
-opening_fits made held order k s tag body h =
-    record { aad_fits = h.taken.fits.aad_fits; text_fits = omega (arith, h.within, h.limit_fits) }
 
 -- ---- the finding for a body and the bytes after it
 
@@ -66,41 +58,38 @@ unsealed_found s tag body y len long size equal other =
 -- ---- a whole pass
 
 -- if the body was taken and decrypted, and t is the tag of its text, the body has passed with the tag t
-pub took_masked : {S H : Type 0} (made : S → Setting → List ℕ → ℕ → Type 0)
-    (held : H → Setting → List ℕ → Type 0) (order : Order) (s : Setting) (tag : List ℕ)
-    (len n : ℕ) (l l' o o' : Option (List ℕ)) (k : Masking S H) (t : List ℕ)
-    → (q : HasFilledRoom (HoldsMasking made held (message_task order s tag)) (mask_of s tag) [] (len - 16)
-    l l' o o' k n)
+pub took_masked : (order : Order) (s : Setting) (tag : List ℕ) (len n : ℕ) (l l' o o' : Option (List ℕ)) (k : Masking)
+    (t : List ℕ)
+    → (q : HasFilledRoom (HoldsMasking (message_task order s tag)) (mask_of s tag) [] (len - 16) l l' o o' k n)
     → t ≡ tag_of s (masked (mask_of s tag) 0 q.bytes) → PassesBody s tag len l l' o o' n t
-took_masked made held order s tag len n l l' o o' k t q is = record {
-  bytes = q.bytes;
-  went = record {
-    consumed = q.went.consumed;
-    given = q.went.given;
-    held = (opening_fits made held order k s tag q.bytes q.went.held, is);
-    small = q.went.small;
-  };
-  count = q.count;
-  short = q.short;
-  end = q.end;
-}
+took_masked order s tag len n l l' o o' k t q is =
+    let h = q.went.held in
+    let fits : Fits s q.bytes = record {
+      aad_fits = h.taken.fits.aad_fits;
+      text_fits = omega (arith, h.taken.fits.text_fits, h.taken.length_is, h.count_is);
+    } in
+    record {
+      bytes = q.bytes;
+      went = record { consumed = q.went.consumed; given = q.went.given; held = (fits, is); small = q.went.small };
+      count = q.count;
+      short = q.short;
+      end = q.end;
+    }
 
 -- if the body was taken and authenticated but not decrypted, and t is the tag over it, the body has passed with the tag t
-pub took_read : {H : Type 0} (held : H → Setting → List ℕ → Type 0) (s : Setting) (tag : List ℕ) (len n : ℕ)
-    (l l' : Option (List ℕ)) (k : Authenticator H) (t : List ℕ) → is_one_pass (construction_of s.suite) ≡ true
-    → (construction_of s.suite ≡ ByGcm → IsKey s.key)
-    → (q : HasFilledRoom (λ a fed. HoldsAuthenticator held a s fed) (λ _. 0) [] (len - 16) l l' None None k n)
+pub took_read : (s : Setting) (tag : List ℕ) (len n : ℕ) (l l' : Option (List ℕ)) (k : Reading) (t : List ℕ)
+    → is_one_pass (construction_of s.suite) ≡ true → MasksByBytes s
+    → (q : HasFilledRoom (HoldsReading s) (λ _. 0) [] (len - 16) l l' None None k n)
     → t ≡ tag_over s.suite s.key s.nonce s.aad q.bytes → PassesBody s tag len l l' None None n t
-took_read held s tag len n l l' k t one key q is =
+took_read s tag len n l l' k t one bytes q is =
     let P : List ℕ → Type 0 = λ b. (i : ℕ) → get_or b i 0 < 256 in
     record {
       bytes = q.bytes;
       went = record {
         consumed = q.went.consumed;
         given = tt;
-        held = (q.went.held.fits, is ∙ sym (body_tag s tag q.bytes one));
-        small = masked_small (mask_of s tag) 0 q.bytes (subst P (masked_by_zeros 0 q.bytes) q.went.small)
-            (mask_small s tag one key);
+        held = (q.went.held.taken.fits, is ∙ sym (body_tag s tag q.bytes one));
+        small = masked_small (mask_of s tag) 0 q.bytes (subst P (masked_by_zeros 0 q.bytes) q.went.small) (bytes tag);
       };
       count = q.count;
       short = q.short;

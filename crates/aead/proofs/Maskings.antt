@@ -1,5 +1,5 @@
 -- A piece is masked and authenticated, in either order.
-use Rattle.std.proofs.Common.{◌≡◌, ℕ, List, ◌++◌, length, subst, sym, ap, ◌∙◌, arith, length-append, zero-add}
+use Rattle.std.proofs.Common.{◌≡◌, ℕ, List, [], ◌++◌, length, subst, sym, ap, ◌∙◌, arith, length-append, zero-add}
 use Rattle.octets.specs.Masked.{masked}
 use Rattle.octets.proofs.Masks.{length-masked, masked-append}
 use Rattle.aead.specs.declared.authenticator.Authenticator.{Authenticator}
@@ -8,7 +8,11 @@ use Rattle.aead.specs.Code.States.{HoldsAuthenticator}
 use Rattle.octets.specs.Ends.{hashed_of}
 use Rattle.octets.specs.declared.work.Order.{Order}
 use Rattle.octets.specs.declared.work.Order.TheVariants.{MaskFirst, HashFirst}
-use Rattle.aead.specs.Code.Masks.{Masks, Takes, MasksAndHashes, as_it_comes, as_it_leaves, hashed_by}
+use Rattle.aead.specs.Code.Masks.{Masks, Takes, MasksAndHashes, as_it_comes, as_it_leaves, hashed_by, none_hashed}
+use Rattle.aead.specs.declared.engine.stage.Masking.{Masking}
+use Rattle.aead.specs.PassStates.{HoldsNumbers}
+use Rattle.aead.specs.Code.MessageKeys.{AreKeysOf}
+use Rattle.aead.specs.Code.Maskings.{Task, task_mask, HoldsMasking}
 
 -- if a piece is masked, and the piece as it comes in is hashed, it is masked and authenticated
 pub hash_first : {S H : Type 0} (made : S → Setting → List ℕ → ℕ → Type 0)
@@ -47,3 +51,14 @@ pub in_order : {S H : Type 0} (made : S → Setting → List ℕ → ℕ → Typ
     → MasksAndHashes made held (hashed_by o) m m' a a' was now
 in_order made held MaskFirst m m' a a' was now masks takes = mask_first made held m m' a a' was now masks takes
 in_order made held HashFirst m m' a a' was now masks takes = hash_first made held m m' a a' was now masks takes
+
+-- a stage that has taken in no piece belongs to a task
+pub none_fed : (t : Task) (m : Masking) → AreKeysOf m.keys.now t.setting → m.order ≡ t.order → m.tag ≡ t.tag
+    → HoldsNumbers m.state t.setting [] → HoldsMasking t m []
+none_fed t m keys order tag h = record {
+  keys_are = keys;
+  order_is = order;
+  tag_is = tag;
+  taken = subst (HoldsNumbers m.state t.setting) (sym (none_hashed t.order (task_mask t))) h;
+  count_is = h.length_is;
+}

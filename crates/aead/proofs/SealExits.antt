@@ -15,6 +15,7 @@ use Rattle.octets.proofs.Masks.{length-masked, take-masked}
 use Rattle.aead.specs.Suites.{construction_of, is_one_pass, text_limit, aad_limit}
 use Rattle.aead.specs.Sealing.{Setting, mask_of, tag_of, sealing}
 use Rattle.aead.specs.Refusals.{DueToBoth}
+use Rattle.aead.specs.Code.Maskings.{no_tag}
 use Rattle.aead.specs.Code.Passes.{Stopped}
 use Rattle.aead.specs.Code.Extents.{HasPassedAll}
 use Rattle.aead.specs.SealStream.{may_seal, SealVerdict, SealsStream, IfTextKnown}
@@ -26,20 +27,20 @@ use Rattle.aead.proofs.Extents.{all_known, all_stopped_known}
 -- for a text within the limit, the bytes that may be written are the ciphertext and the tag
 pub may_seal_is : (s : Setting) (x : List ℕ) → is_one_pass (construction_of s.suite) ≡ true
     → length x ≤ text_limit s.suite
-    → may_seal s x ≡ masked (mask_of s []) 0 x ++ tag_of s x
+    → may_seal s x ≡ masked (mask_of s no_tag) 0 x ++ tag_of s x
 unfolding may_seal sealing
 may_seal_is s x one fits =
     rw (le-leb (length x) (text_limit s.suite) fits)
-    (ap (λ f. masked f 0 x ++ tag_of s x) (same_mask s (tag_of s x) [] one))
+    (ap (λ f. masked f 0 x ++ tag_of s x) (same_mask s (tag_of s x) no_tag one))
 
 -- for a longer text, the bytes that may be written are the ciphertext of its first bytes, up to the limit
 pub may_seal_long : (s : Setting) (x : List ℕ) → is_one_pass (construction_of s.suite) ≡ true
     → text_limit s.suite < length x
-    → may_seal s x ≡ masked (mask_of s []) 0 (take (text_limit s.suite) x)
+    → may_seal s x ≡ masked (mask_of s no_tag) 0 (take (text_limit s.suite) x)
 unfolding may_seal
 may_seal_long s x one past =
     rw (lt-leb (length x) (text_limit s.suite) past)
-    (ap (λ f. masked f 0 (take (text_limit s.suite) x)) (same_mask s (tag_of s x) [] one))
+    (ap (λ f. masked f 0 (take (text_limit s.suite) x)) (same_mask s (tag_of s x) no_tag one))
 
 pub may_seal_sealing : (s : Setting) (x : List ℕ) → length x ≤ text_limit s.suite → may_seal s x ≡ sealing s x
 unfolding may_seal
@@ -48,17 +49,17 @@ may_seal_sealing s x fits = rw (le-leb (length x) (text_limit s.suite) fits) ref
 -- a beginning of the ciphertext within the limit is a beginning of the bytes that may be written
 pub begun : (s : Setting) (x : List ℕ) (k : ℕ) → is_one_pass (construction_of s.suite) ≡ true → k ≤ length x
     → k ≤ text_limit s.suite
-    → take k (masked (mask_of s []) 0 x) ≡ take k (may_seal s x)
+    → take k (masked (mask_of s no_tag) 0 x) ≡ take k (may_seal s x)
 begun s x k one within short =
     elim (cases_lt (text_limit s.suite) (length x)) [
       | inl past ↦
-          take-masked (mask_of s []) k 0 x
-          ∙ ap (λ l. masked (mask_of s []) 0 l) (sym (take-take k (text_limit s.suite) x short))
-          ∙ sym (take-masked (mask_of s []) k 0 (take (text_limit s.suite) x))
+          take-masked (mask_of s no_tag) k 0 x
+          ∙ ap (λ l. masked (mask_of s no_tag) 0 l) (sym (take-take k (text_limit s.suite) x short))
+          ∙ sym (take-masked (mask_of s no_tag) k 0 (take (text_limit s.suite) x))
           ∙ sym (ap (take k) (may_seal_long s x one past))
       | inr fits ↦
-          sym (take-append-le k (masked (mask_of s []) 0 x) (tag_of s x)
-          (omega (arith, within, length-masked (mask_of s []) 0 x)))
+          sym (take-append-le k (masked (mask_of s no_tag) 0 x) (tag_of s x)
+          (omega (arith, within, length-masked (mask_of s no_tag) 0 x)))
           ∙ sym (ap (take k) (may_seal_is s x one fits))
     ]
 
@@ -106,13 +107,13 @@ exit_aad l o s read wrote past =
 pub exit_stopped : (l l' o o' : Option (List ℕ)) (s : Setting) (limit read read' wrote wrote' : ℕ)
     (f : Fault) → limit ≡ text_limit s.suite
     → is_one_pass (construction_of s.suite) ≡ true → length s.aad ≤ aad_limit s.suite
-    → Stopped (mask_of s []) [] limit l l' o o'
+    → Stopped (mask_of s no_tag) [] limit l l' o o'
     → DueToBoth {T = ℕ} [] read read' wrote wrote' (Err f)
     → IfTextKnown l o o' (λ x given. SealsStream s x given read read' wrote wrote' (Err f))
 exit_stopped l l' o o' s limit read read' wrote wrote' f same one fits stop blame =
-    if_text_known l o o' _ _ (told l (λ m. Stopped (mask_of s []) [] limit m l' o o') stop) (λ x st.
-    let k = all_stopped_known (mask_of s []) limit x l' o o' st in (
-      take k.0 (masked (mask_of s []) 0 x),
+    if_text_known l o o' _ _ (told l (λ m. Stopped (mask_of s no_tag) [] limit m l' o o') stop) (λ x st.
+    let k = all_stopped_known (mask_of s no_tag) limit x l' o o' st in (
+      take k.0 (masked (mask_of s no_tag) 0 x),
       k.3,
       record {
         early = λ past. absurd (omega (arith, past, fits));
@@ -126,16 +127,16 @@ exit_stopped l l' o o' s limit read read' wrote wrote' f same one fits stop blam
 pub exit_long : {M : Type 0} (holds : M → List ℕ → Type 0) (l l' o o' : Option (List ℕ))
     (s : Setting) (k : M) (limit read read' wrote wrote' : ℕ) → limit ≡ text_limit s.suite
     → is_one_pass (construction_of s.suite) ≡ true → length s.aad ≤ aad_limit s.suite
-    → HasPassedAll holds (mask_of s []) limit l l' o o' k None → (read' ≡ read) × (wrote' ≡ wrote)
+    → HasPassedAll holds (mask_of s no_tag) limit l l' o o' k None → (read' ≡ read) × (wrote' ≡ wrote)
     → IfTextKnown l o o' (λ x given. SealsStream s x given read read' wrote wrote' (Err TextTooLong))
 exit_long holds l l' o o' s k limit read read' wrote wrote' same one fits went kept =
     if_text_known l o o' _ _
-    (told l (λ m. HasPassedAll holds (mask_of s []) limit m l' o o' k None) went) (λ x w.
-    let t = all_known holds (mask_of s []) limit x l' o o' k None w in
+    (told l (λ m. HasPassedAll holds (mask_of s no_tag) limit m l' o o' k None) went) (λ x w.
+    let t = all_known holds (mask_of s no_tag) limit x l' o o' k None w in
     let past : text_limit s.suite < length x = omega (arith, t.2, same) in
-    let given : List ℕ = masked (mask_of s []) 0 (take limit x) in
+    let given : List ℕ = masked (mask_of s no_tag) 0 (take limit x) in
     let all : given ≡ may_seal s x =
-    ap (λ n. masked (mask_of s []) 0 (take n x)) same ∙ sym (may_seal_long s x one past) in (
+    ap (λ n. masked (mask_of s no_tag) 0 (take n x)) same ∙ sym (may_seal_long s x one past) in (
       given,
       t.0,
       record {
@@ -153,10 +154,10 @@ exit_long holds l l' o o' s k limit read read' wrote wrote' same one fits went k
 -- if a reading was taken to its end, the state holds its whole text
 pub holds_all : {M : Type 0} (holds : M → List ℕ → Type 0) (k : M) (s : Setting) (limit n : ℕ)
     (x : List ℕ) (l' o o' : Option (List ℕ)) → limit ≡ text_limit s.suite
-    → HasPassedAll holds (mask_of s []) limit (Some x) l' o o' k (Some n)
+    → HasPassedAll holds (mask_of s no_tag) limit (Some x) l' o o' k (Some n)
     → holds k x × (length x ≤ text_limit s.suite)
 holds_all holds k s limit n x l' o o' same went =
-    let t = all_known holds (mask_of s []) limit x l' o o' k (Some n) went in
+    let t = all_known holds (mask_of s no_tag) limit x l' o o' k (Some n) went in
     let all : take limit x ≡ x = take_all limit x (omega (arith, t.2.0, t.2.1)) in
     let P : List ℕ → Type 0 = λ y. holds k y in
     (subst P all t.1, omega (arith, t.2.0, t.2.1, same))
@@ -166,7 +167,7 @@ pub exit_tag : {M : Type 0} (holds : M → List ℕ → Type 0) (l l' o o' o'' :
     (s : Setting) (k : M) (tag : List ℕ) (limit n i read read' wrote wrote' : ℕ)
     (r : Result (Unit {0}) Fault) → limit ≡ text_limit s.suite
     → is_one_pass (construction_of s.suite) ≡ true → length s.aad ≤ aad_limit s.suite
-    → HasPassedAll holds (mask_of s []) limit l l' o o' k (Some n)
+    → HasPassedAll holds (mask_of s no_tag) limit l l' o o' k (Some n)
     → ((text : List ℕ) → holds k text → tag ≡ tag_of s text)
     → Appends o' o'' (take i tag)
     → ((r ≡ Ok tt) × (length tag ≤ i) × (read' ≡ read) × (wrote' ≡ wrote))
@@ -174,14 +175,14 @@ pub exit_tag : {M : Type 0} (holds : M → List ℕ → Type 0) (l l' o o' o'' :
     → IfTextKnown l o o'' (λ x given. SealsStream s x given read read' wrote wrote' r)
 exit_tag holds l l' o o' o'' s k tag limit n i read read' wrote wrote' r same one fits went tag_is more end =
     if_text_known l o o'' _ _
-    (told l (λ m. HasPassedAll holds (mask_of s []) limit m l' o o' k (Some n)) went)
+    (told l (λ m. HasPassedAll holds (mask_of s no_tag) limit m l' o o' k (Some n)) went)
     (λ x w.
     let held = holds_all holds k s limit n x l' o o' same w in
-    let t = all_known holds (mask_of s []) limit x l' o o' k (Some n) w in
+    let t = all_known holds (mask_of s no_tag) limit x l' o o' k (Some n) w in
     let is : tag ≡ tag_of s x = tag_is x held.0 in
     let whole : take limit x ≡ x = take_all limit x (omega (arith, held.1, same)) in
-    let P : List ℕ → Type 0 = λ y. Appends o o' (masked (mask_of s []) 0 y) in
-    let body : List ℕ = masked (mask_of s []) 0 x in
+    let P : List ℕ → Type 0 = λ y. Appends o o' (masked (mask_of s no_tag) 0 y) in
+    let body : List ℕ = masked (mask_of s no_tag) 0 x in
     let given : List ℕ = body ++ take i tag in
     let all : may_seal s x ≡ body ++ tag =
     may_seal_is s x one held.1 ∙ ap (λ z. body ++ z) (sym is) in (

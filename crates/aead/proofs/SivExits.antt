@@ -13,12 +13,12 @@ use Rattle.octets.specs.Device.{Failed}
 use Rattle.octets.specs.Masked.{masked}
 use Rattle.octets.proofs.Devices.{appends_none, appends_more}
 use Rattle.octets.proofs.Masks.{take-masked}
-use Rattle.aead.specs.declared.authenticator.Authenticator.{Authenticator}
+use Rattle.aead.specs.declared.engine.stage.Reading.{Reading}
 use Rattle.aead.specs.Suites.{text_limit, aad_limit}
 use Rattle.aead.specs.Sealing.{Setting, Fits, mask_of, tag_of}
 use Rattle.aead.specs.Refusals.{DueToBoth}
 use Rattle.aead.specs.Pieces.{Repeats}
-use Rattle.aead.specs.Code.States.{HoldsAuthenticator}
+use Rattle.aead.specs.Code.Maskings.{HoldsReading}
 use Rattle.aead.specs.Code.Passes.{Stopped}
 use Rattle.aead.specs.Code.Extents.{HasPassedAll}
 use Rattle.aead.specs.SealSivStream.{again, WritesAgain, SivVerdict, SivCounts, SealsSivStream}
@@ -253,18 +253,18 @@ wrote s a b o o' x x' y y' z z' r fits kept w =
       ]
     ]
 
-pub exit_second : {H : Type 0} (held : H → Setting → List ℕ → Type 0) (mask : ℕ → ℕ)
-    (la lb o o' l' p p' : Option (List ℕ)) (s : Setting) (k : Authenticator H) (room n x x' y y' z z' : ℕ)
+pub exit_second : (mask : ℕ → ℕ)
+    (la lb o o' l' p p' : Option (List ℕ)) (s : Setting) (k : Reading) (room n x x' y y' z z' : ℕ)
     (r : Result (Unit {0}) Fault)
-    → x' ≡ x → HasPassedAll (λ a fed. HoldsAuthenticator held a s fed) mask room la l' p p' k (Some n)
-    → ((a : List ℕ) → HoldsAuthenticator held k s a → length a ≡ n → IfSome lb (λ b. WritesAgain s a b o o' y y' z z' r))
+    → x' ≡ x → HasPassedAll (HoldsReading s) mask room la l' p p' k (Some n)
+    → ((a : List ℕ) → HoldsReading s k a → length a ≡ n → IfSome lb (λ b. WritesAgain s a b o o' y y' z z' r))
     → IfBothKnown la lb o o'
     (λ a b given. SealsSivStream s a b given (record { first = x; second = y; outlet = z })
     (record { first = x'; second = y'; outlet = z' }) r)
-exit_second held mask None lb o o' l' p p' s k room n x x' y y' z z' r kept w f = tt
-exit_second held mask (Some a) lb o o' l' p p' s k room n x x' y y' z z' r kept w f =
-    let t = all_known (λ a fed. HoldsAuthenticator held a s fed) mask room a l' p p' k (Some n) w in
-    let Q : List ℕ → Type 0 = λ x. HoldsAuthenticator held k s x in
+exit_second mask None lb o o' l' p p' s k room n x x' y y' z z' r kept w f = tt
+exit_second mask (Some a) lb o o' l' p p' s k room n x x' y y' z z' r kept w f =
+    let t = all_known (HoldsReading s) mask room a l' p p' k (Some n) w in
+    let Q : List ℕ → Type 0 = λ x. HoldsReading s k x in
     let h = subst Q (take_all room a (omega (arith, t.2.0, t.2.1))) t.1 in
     if_both_known (Some a) lb o o' (λ m. m ≡ a) (λ b. WritesAgain s a b o o' y y' z z' r) _ refl (f a h t.2.0)
     (λ m b e t.
@@ -272,4 +272,4 @@ exit_second held mask (Some a) lb o o' l' p p' s k room n x x' y y' z z' r kept 
     λ q. (given : List ℕ) × Appends o o' given
     × SealsSivStream s q b given (record { first = x; second = y; outlet = z })
     (record { first = x'; second = y'; outlet = z' }) r in
-    subst P (sym e) (wrote s a b o o' x x' y y' z z' r h.fits kept t))
+    subst P (sym e) (wrote s a b o o' x x' y y' z z' r h.taken.fits kept t))

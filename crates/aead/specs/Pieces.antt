@@ -1,7 +1,6 @@
 -- The state of a sealing or an opening in pieces, in terms of the bytes that it has taken in.
 use Rattle.std.specs.Prelude.{◌≡◌, ℕ, ◌<◌, ◌≤◌, min, true, List, ◌++◌, length, get_or, replicate}
 use Rattle.octets.specs.Masked.{masked}
-use Rattle.gf128.specs.Orders.{Reversed, Serves}
 use Rattle.gf128.specs.Code.States.{key_of}
 use Rattle.aead.specs.declared.pass_state.PassState.{PassState}
 use Rattle.aead.specs.declared.opener.Opener.{Opener}
@@ -14,10 +13,10 @@ use Rattle.aead.specs.declared.siv.SivWriter.{SivWriter}
 use Rattle.aead.specs.declared.siv_keys.SivKeys.{SivKeys}
 use Rattle.aead.specs.declared.two_pass_state.TwoPassState.{TwoPassState}
 use Rattle.aead.specs.Suites.{Construction, ByGcmSiv, construction_of, is_one_pass, text_limit, text_limit_by}
-use Rattle.aead.specs.Sealing.{Setting, Opened, authentication_key, encryption_key, mask_of, tag_of, sealing}
+use Rattle.aead.specs.Sealing.{Setting, Opened, mask_of, tag_of, sealing}
 use Rattle.aead.specs.PassStates.{HoldsNumbers, HoldsState, IsStart, zero_state, zero_sum}
 use Rattle.aead.specs.KeyedPasses.{HasKeys, KnowsCipherOf, authenticated_by}
-use Rattle.aead.specs.Code.MessageKeys.{construction_by, AreKeysOf}
+use Rattle.aead.specs.Code.MessageKeys.{construction_by, AreDerived, AreKeysOf}
 
 -- the sealer has the keys of a message and has taken in this text
 pub record HoldsSealer (sealer : Sealer) (s : Setting) (text : List ℕ) : Type 0 where
@@ -28,10 +27,8 @@ pub record HoldsSealer (sealer : Sealer) (s : Setting) (text : List ℕ) : Type 
 
 -- k holds the derived keys of a message of AES-GCM-SIV, and its nonce
 pub record AreKeys (k : SivKeys) (s : Setting) : Type 0 where
-  pub by : construction_of s.suite ≡ ByGcmSiv
-  pub encryption_is : k.encryption ≡ encryption_key s.key s.nonce
-  pub hash_key_is : Serves Reversed (authentication_key s.key s.nonce) k.hash_key
-  pub multiplier_is : key_of k.multiplier ≡ k.hash_key
+  pub derived : AreDerived k.derived s
+  pub multiplier_is : key_of k.multiplier ≡ k.derived.hash_key
   pub nonce_is : k.nonce ≡ s.nonce
 
 -- the state of two readings or passes whose numbers are all zeros

@@ -12,7 +12,7 @@ ghost use Rattle.aead.specs.Code.MessageKeys.{AreAesKeys};
 ghost use Rattle.aead.specs.Code.PassSteps.{MasksPieceKnowing, TakesPiece, TakesPieceText};
 
 use crate::hashes::{BlockKeys, first_block};
-use crate::keys::{AesKeys, ExpandedKey, KeyBytes};
+use crate::keys::{AesKeys, ExpandedKey, KeyBytes, LentMul};
 use crate::pass_state::PassState;
 use crate::rule::Rule;
 use aes::{Ctr, KnownBlock};
@@ -41,7 +41,7 @@ pub(crate) fn initial_state<R: Rule>(hash_key: [u8; 32], aad: &[u8]) -> PassStat
     }
 }
 
-// Masks and authenticates a piece with a key schedule and a table.
+// Masks and authenticates a piece with a key schedule and a multiplier.
 fn mask_expanded<R: Rule>(
     state: &mut PassState,
     keys: ExpandedKey,
@@ -52,15 +52,16 @@ fn mask_expanded<R: Rule>(
     piece: &mut [u8],
 )
     requires { state.old.length + length piece.old ≤ 2 ^ 36 }
-    ensures { (s : Setting) (fed : List ℕ) → construction_of s.suite ≡ R.Count.by
+    ensures masks { (s : Setting) (fed : List ℕ) → construction_of s.suite ≡ R.Count.by
         → AreAesKeys R.Count.by R.order (AesKeys.Expanded keys.entry) s → nonce.now ≡ s.nonce
         → MasksPieceKnowing (hashed_by order) state.old state.new known.old known.new piece.old piece.new
         (cipher_key R.Count.by s) s tag.now fed }
+    ensures length { state.new.length ≡ state.old.length + length piece.old }
 {
     let first = R::first_counter(nonce, tag);
     let mut mask = Ctr::<R::Count>::at_known(keys.key, &first, state.length, known);
     state.step(
-        &BlockKeys::<TableMul, R>::by(keys.few),
+        &BlockKeys::<LentMul, R>::by(&keys.multiplier),
         &mut mask,
         order,
         piece,
@@ -80,16 +81,17 @@ fn mask_anew<R: Rule>(
     piece: &mut [u8],
 )
     requires { state.old.length + length piece.old ≤ 2 ^ 36 }
-    ensures { (s : Setting) (fed : List ℕ) → construction_of s.suite ≡ R.Count.by
+    ensures masks { (s : Setting) (fed : List ℕ) → construction_of s.suite ≡ R.Count.by
         → AreAesKeys R.Count.by R.order (AesKeys.Bytes bytes.entry) s → nonce.now ≡ s.nonce
         → MasksPieceKnowing (hashed_by order) state.old state.new known.old known.new piece.old piece.new
         (cipher_key R.Count.by s) s tag.now fed }
+    ensures length { state.new.length ≡ state.old.length + length piece.old }
 {
     let key = bytes.schedule();
-    let few = TableMul::of(&state.multiplier_key());
+    let multiplier = TableMul::of(&state.multiplier_key());
     let keys = ExpandedKey {
         key: &key,
-        few: &few,
+        multiplier: LentMul::Table(&multiplier),
     };
     mask_expanded::<R>(state, keys, nonce, tag, known, order, piece);
 }
@@ -106,10 +108,11 @@ pub(crate) fn mask<R: Rule>(
     piece: &mut [u8],
 )
     requires { state.old.length + length piece.old ≤ 2 ^ 36 }
-    ensures { (s : Setting) (fed : List ℕ) → construction_of s.suite ≡ R.Count.by
+    ensures masks { (s : Setting) (fed : List ℕ) → construction_of s.suite ≡ R.Count.by
         → AreAesKeys R.Count.by R.order keys.entry s → nonce.now ≡ s.nonce
         → MasksPieceKnowing (hashed_by order) state.old state.new known.old known.new piece.old piece.new
         (cipher_key R.Count.by s) s tag.now fed }
+    ensures length { state.new.length ≡ state.old.length + length piece.old }
 {
     match keys {
         AesKeys::Expanded(keys) => mask_expanded::<R>(state, keys, nonce, tag, known, order, piece),
@@ -121,8 +124,9 @@ pub(crate) fn mask<R: Rule>(
 #[inline(never)]
 fn take_anew<R: Rule>(state: &mut PassState, piece: &[u8])
     requires { state.old.length + length piece.now < 2 ^ 64 }
-    ensures { (s : Setting) (bytes : List ℕ) → construction_of s.suite ≡ R.Count.by
+    ensures takes { (s : Setting) (bytes : List ℕ) → construction_of s.suite ≡ R.Count.by
         → TakesPiece state.old state.new piece.now s bytes }
+    ensures length { state.new.length ≡ state.old.length + length piece.now }
 {
     let multiplier = TableMul::of(&state.multiplier_key());
     state.take(&BlockKeys::<TableMul, R>::by(&multiplier), piece);
@@ -132,16 +136,20 @@ fn take_anew<R: Rule>(state: &mut PassState, piece: &[u8])
 #[inline(always)]
 pub(crate) fn take<R: Rule>(state: &mut PassState, keys: AesKeys, piece: &[u8])
     requires { state.old.length + length piece.now < 2 ^ 64 }
-    ensures { (s : Setting) (bytes : List ℕ) → construction_of s.suite ≡ R.Count.by
+    ensures takes { (s : Setting) (bytes : List ℕ) → construction_of s.suite ≡ R.Count.by
         → AreAesKeys R.Count.by R.order keys.entry s → TakesPiece state.old state.new piece.now s bytes }
+    ensures length { state.new.length ≡ state.old.length + length piece.now }
 {
     match keys {
-        AesKeys::Expanded(keys) => state.take(&BlockKeys::<TableMul, R>::by(keys.few), piece),
+        AesKeys::Expanded(keys) => state.take(
+            &BlockKeys::<LentMul, R>::by(&keys.multiplier),
+            piece,
+        ),
         AesKeys::Bytes(_) => take_anew::<R>(state, piece),
     }
 }
 
-// Authenticates the text of a piece of a ciphertext with a key schedule and a table.
+// Authenticates the text of a piece of a ciphertext with a key schedule and a multiplier.
 fn take_text_expanded<R: Rule>(
     state: &mut PassState,
     keys: ExpandedKey,
@@ -156,7 +164,11 @@ fn take_text_expanded<R: Rule>(
 {
     let first = R::first_counter(nonce, tag);
     let mut mask = Ctr::<R::Count>::at_known(keys.key, &first, state.length, &KnownBlock::none());
-    state.take_text(&BlockKeys::<TableMul, R>::by(keys.few), &mut mask, piece);
+    state.take_text(
+        &BlockKeys::<LentMul, R>::by(&keys.multiplier),
+        &mut mask,
+        piece,
+    );
 }
 
 // Authenticates the text of a piece of a ciphertext under the bytes of a key. Only this call has the key schedule and the table on
@@ -175,10 +187,10 @@ fn take_text_anew<R: Rule>(
         → TakesPieceText state.old state.new piece.now s tag.now fed }
 {
     let key = bytes.schedule();
-    let few = TableMul::of(&state.multiplier_key());
+    let multiplier = TableMul::of(&state.multiplier_key());
     let keys = ExpandedKey {
         key: &key,
-        few: &few,
+        multiplier: LentMul::Table(&multiplier),
     };
     take_text_expanded::<R>(state, keys, nonce, tag, piece);
 }
@@ -220,7 +232,7 @@ pub(crate) fn digest<R: Rule>(state: &PassState, keys: AesKeys) -> Block
         → AreAesKeys R.Count.by R.order keys.entry s → HoldsNumbers state.now s bytes → result ≡ digest_over s bytes }
 {
     match keys {
-        AesKeys::Expanded(keys) => state.digest(&BlockKeys::<TableMul, R>::by(keys.few)),
+        AesKeys::Expanded(keys) => state.digest(&BlockKeys::<LentMul, R>::by(&keys.multiplier)),
         AesKeys::Bytes(_) => digest_anew::<R>(state),
     }
 }

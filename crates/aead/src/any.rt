@@ -2,13 +2,13 @@
 
 ghost use Rattle.std.specs.Prelude.{◌≡◌, ◌≢◌, ◌≤◌, ◌++◌, ℕ, List, [], length, true, MatchResult};
 ghost use Rattle.aead.specs.Suites.{construction_of, is_one_pass, key_length, text_limit, aad_limit};
-ghost use Rattle.aead.specs.Sealing.{Opened};
+ghost use Rattle.aead.specs.Sealing.{Opened, hash_key};
 ghost use Rattle.aead.specs.Ciphers.{setting};
 ghost use Rattle.aead.specs.AnyCiphers.{one_pass_keyed, keyed_of};
 ghost use Rattle.aead.specs.Refusals.{OpenRefused};
 ghost use Rattle.aead.specs.PassStates.{HoldsNumbers};
 ghost use Rattle.aead.specs.Pieces.{MasksByBytes};
-ghost use Rattle.aead.specs.Code.MessageKeys.{AreKeysOf};
+ghost use Rattle.aead.specs.Code.MessageKeys.{AreKeysOf, lent_key};
 
 use crate::aead::Aead;
 use crate::aes_pass;
@@ -16,7 +16,7 @@ use crate::chacha_poly::{ChaChaPoly, one_time_key};
 use crate::gcm::{Gcm, hash_keys};
 use crate::gcm_siv::GcmSiv;
 use crate::hashes::PolyKeys;
-use crate::keys::{AesKeys, CipherKeys, ExpandedKey, MessageKeys};
+use crate::keys::{AesKeys, CipherKeys, ExpandedKey, LentMul, MessageKeys};
 use crate::pass_state::PassState;
 use crate::suite::{Construction, Suite};
 use aes::AesKey;
@@ -41,6 +41,23 @@ pub enum AnyAead {
     Siv(GcmSiv),
 }
 
+// Lends the keys of a message of AES-GCM with this nonce, with a multiplier by the hash key.
+pub(crate) fn gcm_keys<'a>(
+    cipher: &'a Gcm,
+    nonce: &Nonce,
+    multiplier: LentMul<'a>,
+) -> MessageKeys<'a>
+    requires { lent_key multiplier ≡ hash_key cipher.now.key }
+    ensures { (aad : List ℕ) → let s = setting cipher.now nonce.now aad in
+        AreKeysOf result s × MasksByBytes s × (is_one_pass (construction_of s.suite) ≡ true) }
+{
+    let (key, _, _) = cipher.keys();
+    MessageKeys {
+        cipher: CipherKeys::Gcm(AesKeys::Expanded(ExpandedKey { key, multiplier })),
+        nonce: *nonce.bytes(),
+    }
+}
+
 impl AnyOnePass {
     // Lends the keys of a message with this nonce.
     pub(crate) fn keys<'a>(&'a self, nonce: &Nonce) -> MessageKeys<'a>
@@ -53,11 +70,8 @@ impl AnyOnePass {
                 nonce: *nonce.bytes(),
             },
             AnyOnePass::Gcm(cipher) => {
-                let (key, _, few) = cipher.keys();
-                MessageKeys {
-                    cipher: CipherKeys::Gcm(AesKeys::Expanded(ExpandedKey { key, few })),
-                    nonce: *nonce.bytes(),
-                }
+                let (_, _, multiplier) = cipher.keys();
+                gcm_keys(cipher, nonce, LentMul::Table(multiplier))
             }
         }
     }

@@ -170,10 +170,6 @@ impl<'k, 'n> Message for NoncedChaCha<'k, 'n> {
 
     ghost nonce = { λ m. m.nonce.now };
 
-    fn suite(&self) -> Suite {
-        Suite::ChaCha20Poly1305
-    }
-
     fn hash(&self) -> Poly {
         Poly::new(&one_time_key(self.key, self.nonce))
     }
@@ -212,10 +208,6 @@ impl<'a> Message for BufferedChaCha<'a> {
     ghost keyed = { λ m. record { suite = ChaCha20Poly1305; key = m.key.now } };
 
     ghost nonce = { λ m. m.nonce.now };
-
-    fn suite(&self) -> Suite {
-        Suite::ChaCha20Poly1305
-    }
 
     // The one-time key is at the start of the block with counter 0 (RFC 8439, 2.6).
     fn hash(&self) -> Poly {

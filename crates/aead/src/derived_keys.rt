@@ -7,9 +7,13 @@ ghost use Rattle.gf128.specs.Polyval.{IsReversedMulX};
 ghost use Rattle.aead.specs.Suites.{construction_of, key_length, ByGcmSiv};
 ghost use Rattle.aead.specs.Sealing.{key_part, authentication_key, encryption_key};
 
+use crate::aes_pass;
+use crate::gcm_siv::hash_keys;
+use crate::keys::{AesKeys, CipherKeys, ExpandedKey, LentMul, MessageKeys};
+use crate::pass_state::PassState;
 use crate::suite::Suite;
 use aes::AesKey;
-use gf128::reversed_mul_x;
+use gf128::{PolyvalOrder, reversed_mul_x};
 use octets::{Block, Nonce};
 
 // Returns two arrays of one length, joined.
@@ -129,6 +133,12 @@ pub(crate) struct DerivedKeys {
 }
 
 impl DerivedKeys {
+    ghost use Rattle.std.specs.Prelude.{List, []};
+    ghost use Rattle.aead.specs.Suites.{aad_limit};
+    ghost use Rattle.aead.specs.Sealing.{Setting};
+    ghost use Rattle.aead.specs.PassStates.{HoldsNumbers};
+    ghost use Rattle.aead.specs.Code.MessageKeys.{construction_by, lent_key, AreDerived, AreKeysOf};
+
     // Derives the keys of a message from a suite's key and a nonce (RFC 8452, 4).
     pub(crate) fn new(suite: Suite, key: &AesKey, nonce: &Nonce) -> DerivedKeys
         requires by_gcm_siv { construction_of suite ≡ ByGcmSiv }
@@ -147,5 +157,30 @@ impl DerivedKeys {
             hash_key,
             encryption,
         }
+    }
+
+    // Lends the keys of the message with this nonce, with a multiplier by the hash key.
+    pub(crate) fn message_keys<'a>(
+        &'a self,
+        nonce: &Nonce,
+        multiplier: LentMul<'a>,
+    ) -> MessageKeys<'a>
+        ensures by { construction_by result.cipher ≡ ByGcmSiv }
+        ensures keys { (s : Setting) → AreDerived self.now s → lent_key multiplier.entry ≡ self.now.hash_key
+            → nonce.now ≡ s.nonce → AreKeysOf result s }
+    {
+        let key = &self.encryption;
+        MessageKeys {
+            cipher: CipherKeys::Siv(AesKeys::Expanded(ExpandedKey { key, multiplier })),
+            nonce: *nonce.bytes(),
+        }
+    }
+
+    // Returns the initial state for associated data.
+    pub(crate) fn initial_state(&self, aad: &[u8]) -> PassState
+        ensures { (s : Setting) → AreDerived self.now s → s.aad ≡ aad.now → length aad.now ≤ aad_limit s.suite
+            → HoldsNumbers result s [] }
+    {
+        aes_pass::initial_state::<PolyvalOrder>(hash_keys(&self.hash_key), aad)
     }
 }

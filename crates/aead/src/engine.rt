@@ -9,7 +9,6 @@ mod passes;
 mod seal;
 mod seal_siv;
 mod stage;
-mod verifying;
 
 pub use open::open_stream;
 pub use seal::seal_stream;

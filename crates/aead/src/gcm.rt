@@ -64,7 +64,6 @@ impl Gcm {
         multiplier: M,
     ) -> Nonced<'k, 'n, GhashOrder, M>
         requires { M.key_bytes multiplier ≡ hash_key self.now.key }
-        ensures key { IsKey self.now.key }
         ensures keyed { ⟦<Nonced<'k, 'n, GhashOrder, M> as Message>⟧.keyed result ≡ self.now }
         ensures nonce { ⟦<Nonced<'k, 'n, GhashOrder, M> as Message>⟧.nonce result ≡ nonce.now }
     {

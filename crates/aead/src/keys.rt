@@ -1,5 +1,5 @@
 //! The keys of a message with its nonce, and the steps of a pass over the message under them, in any suite. A cipher or a state
-//! lends the keys for a step: either a key schedule and a table of the hash key, or the bytes of the key.
+//! lends the keys for a step: either a key schedule and a multiplier by the hash key, or the bytes of the key.
 
 ghost use Rattle.std.specs.Prelude.{◌≡◌, ◌+◌, ◌-◌, ◌≤◌, ◌^◌, ◌++◌, ℕ, List, length, take};
 ghost use Rattle.gf128.specs.Orders.{Reversed};
@@ -9,7 +9,7 @@ ghost use Rattle.aead.specs.PassStates.{HoldsNumbers};
 ghost use Rattle.aead.specs.KeyedPasses.{authenticated_by, cipher_key};
 ghost use Rattle.aead.specs.Code.States.{digest_over};
 ghost use Rattle.aead.specs.Code.Masks.{hashed_by};
-ghost use Rattle.aead.specs.Code.MessageKeys.{AreAesKeys};
+ghost use Rattle.aead.specs.Code.MessageKeys.{AreAesKeys, lent_key};
 ghost use Rattle.aead.specs.Code.PassSteps.{MasksPiece, MasksPieceKnowing, TakesPiece, ChecksPiece, OpensPiece};
 
 use crate::hashes::PolyKeys;
@@ -17,14 +17,49 @@ use crate::pass_state::PassState;
 use crate::suite::{Construction, Suite};
 use crate::{aes_pass, chacha_poly, gcm, gcm_siv};
 use aes::{AesKey, KnownBlock};
-use gf128::{GhashOrder, PolyvalOrder, TableMul};
+use gf128::{GhashOrder, HashOrder, Multiply, PolyvalOrder, TableMul, WideMul};
 use octets::{Block, Key32, Nonce, Order, Tag};
 
-// The schedule of an AES key, with the small table of the hash key, for short pieces.
+// A multiplier by the hash key: the small table, for pieces of any length, or the tables of four powers, for streams.
+#[derive(Drop, Clone, Copy)]
+pub(crate) enum LentMul<'a> {
+    Table(&'a TableMul),
+    Wide(&'a WideMul),
+}
+
+impl<'a> Multiply for LentMul<'a> {
+    ghost key_bytes = { lent_key };
+
+    #[inline(always)]
+    fn times(&self, x: &Block) -> Block {
+        match self {
+            LentMul::Table(multiplier) => multiplier.times(x),
+            LentMul::Wide(multiplier) => multiplier.times(x),
+        }
+    }
+
+    #[inline(always)]
+    fn times_word(&self, x: u128) -> u128 {
+        match self {
+            LentMul::Table(multiplier) => multiplier.times_word(x),
+            LentMul::Wide(multiplier) => multiplier.times_word(x),
+        }
+    }
+
+    #[inline(always)]
+    fn times_all<O: HashOrder>(&self, sum: u128, blocks: &[[u8; 16]]) -> u128 {
+        match self {
+            LentMul::Table(multiplier) => multiplier.times_all::<O>(sum, blocks),
+            LentMul::Wide(multiplier) => multiplier.times_all::<O>(sum, blocks),
+        }
+    }
+}
+
+// The schedule of an AES key, with a multiplier by the hash key.
 #[derive(Drop, Clone, Copy)]
 pub(crate) struct ExpandedKey<'a> {
     pub(crate) key: &'a AesKey,
-    pub(crate) few: &'a TableMul,
+    pub(crate) multiplier: LentMul<'a>,
 }
 
 // The bytes of a key, and zeros after them.
@@ -69,9 +104,10 @@ pub struct MessageKeys<'a> {
 #[inline(never)]
 fn mask_chacha(state: &mut PassState, key: &[u8; 32], nonce: &Nonce, order: Order, piece: &mut [u8])
     requires { state.old.length + length piece.old ≤ 2 ^ 38 - 64 }
-    ensures { (s : Setting) (tag fed : List ℕ) → construction_of s.suite ≡ ByChaCha → key.now ≡ s.key
+    ensures masks { (s : Setting) (tag fed : List ℕ) → construction_of s.suite ≡ ByChaCha → key.now ≡ s.key
         → nonce.now ≡ s.nonce
         → MasksPiece (hashed_by order) state.old state.new piece.old piece.new s tag fed }
+    ensures length { state.new.length ≡ state.old.length + length piece.old }
 {
     let mut mask = chacha_poly::mask_at(&Key32::new(*key), nonce, state.length);
     state.step(&PolyKeys, &mut mask, order, piece);
@@ -136,9 +172,10 @@ impl<'a> MessageKeys<'a> {
         piece: &mut [u8],
     )
         requires { state.old.length + length piece.old ≤ text_limit_by (construction_by self.now.cipher) }
-        ensures { (s : Setting) (fed : List ℕ) → AreKeysOf self.now s
+        ensures masks { (s : Setting) (fed : List ℕ) → AreKeysOf self.now s
             → MasksPieceKnowing (hashed_by order) state.old state.new known.old known.new piece.old piece.new
             (cipher_key (construction_of s.suite) s) s tag.now fed }
+        ensures length { state.new.length ≡ state.old.length + length piece.old }
     {
         let nonce = Nonce::new(self.nonce);
         match self.cipher {
@@ -156,8 +193,9 @@ impl<'a> MessageKeys<'a> {
     #[inline(always)]
     pub(crate) fn take(&self, state: &mut PassState, piece: &[u8])
         requires { state.old.length + length piece.now ≤ text_limit_by (construction_by self.now.cipher) }
-        ensures { (s : Setting) (bytes : List ℕ) → AreKeysOf self.now s
+        ensures takes { (s : Setting) (bytes : List ℕ) → AreKeysOf self.now s
             → TakesPiece state.old state.new piece.now s bytes }
+        ensures length { state.new.length ≡ state.old.length + length piece.now }
     {
         match self.cipher {
             CipherKeys::ChaCha(_) => state.take(&PolyKeys, piece),
@@ -184,7 +222,7 @@ impl<'a> MessageKeys<'a> {
 
     // The order in which a ciphertext is decrypted and authenticated.
     #[inline(always)]
-    fn order_of_opening(&self) -> Order
+    pub(crate) fn order_of_opening(&self) -> Order
         ensures { (mask : ℕ → ℕ) (body : List ℕ)
             → hashed_by result mask body ≡ authenticated_by (construction_by self.now.cipher) mask body }
     {

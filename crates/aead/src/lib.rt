@@ -33,7 +33,6 @@ mod hashes;
 mod key_and_nonce;
 mod keys;
 mod mask;
-mod masking;
 mod message;
 mod nonced;
 mod one_pass;

@@ -7,7 +7,6 @@ ghost use Rattle.aead.specs.Code.States.{digest_over};
 
 use crate::hashes::TagHash;
 use crate::mask::MaskStream;
-use crate::suite::Suite;
 use octets::{Block, Tag};
 
 // A message under a cipher and a nonce: it gives the hash of what is authenticated, and makes the tag of it.
@@ -19,9 +18,6 @@ pub(crate) trait Message {
     ghost keyed: { Self → Keyed };
 
     ghost nonce: { Self → List ℕ };
-
-    fn suite(&self) -> Suite
-        ensures { result ≡ (keyed self.now).suite };
 
     // Returns the hash, before any byte is taken in.
     fn hash(&self) -> Self::Hash

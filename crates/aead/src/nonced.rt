@@ -43,10 +43,6 @@ impl<'k, 'n, R: Rule, M: Multiply + Copy> Message for Nonced<'k, 'n, R, M> {
 
     ghost nonce = { λ m. m.nonce.now };
 
-    fn suite(&self) -> Suite {
-        self.suite
-    }
-
     #[inline(always)]
     fn hash(&self) -> BlockHash<M, R> {
         BlockHash::with(self.multiplier)

@@ -6,20 +6,17 @@ ghost use Rattle.aead.specs.Sealing.{Setting};
 ghost use Rattle.aead.specs.Ciphers.{setting};
 ghost use Rattle.aead.specs.PassStates.{HasHashKey, HoldsNone, HoldsNumbers};
 
-use crate::aes_pass;
-use crate::gcm_siv::{GcmSiv, hash_keys};
-use crate::keys::{AesKeys, CipherKeys, ExpandedKey, MessageKeys};
+use crate::derived_keys::DerivedKeys;
+use crate::gcm_siv::GcmSiv;
+use crate::keys::{LentMul, MessageKeys};
 use crate::pass_state::PassState;
-use aes::AesKey;
-use gf128::{Keyed128, PolyvalOrder, TableMul};
-use octets::{Block, Fault, Nonce};
+use gf128::{Keyed128, TableMul};
+use octets::{Fault, Nonce};
 
 // The keys of a message and its nonce.
 #[derive(Drop)]
 pub(crate) struct SivKeys {
-    encryption: AesKey,
-    // The key of POLYVAL's multiplier in GHASH's field.
-    hash_key: Block,
+    derived: DerivedKeys,
     // The small table of the hash key, for short pieces.
     multiplier: TableMul,
     nonce: Nonce,
@@ -33,11 +30,10 @@ impl SivKeys {
     pub(crate) fn new(cipher: &GcmSiv, nonce: &Nonce) -> SivKeys
         ensures { (aad : List ℕ) → AreKeys result (setting cipher.now nonce.now aad) }
     {
-        let keys = cipher.derive(nonce);
+        let derived = cipher.derive(nonce);
         SivKeys {
-            encryption: keys.encryption,
-            hash_key: keys.hash_key,
-            multiplier: TableMul::of(&keys.hash_key),
+            multiplier: TableMul::of(&derived.hash_key),
+            derived,
             nonce: *nonce,
         }
     }
@@ -63,33 +59,20 @@ impl SivKeys {
         }
     }
 
-    // Lends the key schedule and the small table.
-    fn expanded<'a>(&'a self) -> ExpandedKey<'a>
-        ensures key { result.key.now ≡ self.now.encryption }
-        ensures few { result.few.now ≡ self.now.multiplier }
-    {
-        ExpandedKey {
-            key: &self.encryption,
-            few: &self.multiplier,
-        }
-    }
-
     // Lends the keys for a step.
     pub(crate) fn keys<'a>(&'a self) -> MessageKeys<'a>
         ensures by { construction_by result.cipher ≡ ByGcmSiv }
         ensures keys { (s : Setting) → AreKeys self.now s → AreKeysOf result s }
     {
-        MessageKeys {
-            cipher: CipherKeys::Siv(AesKeys::Expanded(self.expanded())),
-            nonce: *self.nonce.bytes(),
-        }
+        self.derived
+            .message_keys(&self.nonce, LentMul::Table(&self.multiplier))
     }
 
-    // The initial state for associated data.
+    // Returns the initial state for associated data.
     pub(crate) fn initial_state(&self, aad: &[u8]) -> PassState
         ensures { (s : Setting) → AreKeys self.now s → s.aad ≡ aad.now → length aad.now ≤ aad_limit s.suite
             → HoldsNumbers result s [] }
     {
-        aes_pass::initial_state::<PolyvalOrder>(hash_keys(&self.hash_key), aad)
+        self.derived.initial_state(aad)
     }
 }

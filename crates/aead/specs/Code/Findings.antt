@@ -1,5 +1,5 @@
 -- How a reading compares with the measured length and tag.
-use Rattle.std.specs.Prelude.{◌≡◌, ℕ, ◌-◌, ◌≤◌, ◌<◌, List, [], Bool, length, take, drop, Option, Result}
+use Rattle.std.specs.Prelude.{◌≡◌, ℕ, ◌-◌, ◌≤◌, ◌<◌, List, [], Bool, true, length, take, drop, Option, Result}
 use Rattle.std.specs.Prelude.{MatchResult}
 use Rattle.std.specs.Io.KnownBytes.{Consumes, Appends, IsAtEnd}
 use Rattle.std.specs.Str.{bytes_eq}
@@ -8,7 +8,12 @@ use Rattle.octets.specs.Masked.{masked}
 use Rattle.aead.specs.declared.engine.passes.Finding.{Finding}
 use Rattle.aead.specs.declared.engine.passes.Finding.TheVariants.{Differs, Unsealed, Sealed}
 use Rattle.aead.specs.Sealing.{Setting, Fits, Opened, IsNoSealing, mask_of, tag_of}
-use Rattle.aead.specs.Sealing.{tag_over}
+use Rattle.aead.specs.declared.keys.MessageKeys.{MessageKeys}
+use Rattle.aead.specs.declared.pass_state.PassState.{PassState}
+use Rattle.aead.specs.Suites.{construction_of, is_one_pass}
+use Rattle.aead.specs.PassStates.{HoldsNumbers}
+use Rattle.aead.specs.Pieces.{MasksByBytes}
+use Rattle.aead.specs.Code.MessageKeys.{AreKeysOf}
 use Rattle.aead.specs.Code.Passes.{Stopped, HasFilledRoom}
 
 -- what a reading x was found to be: it differs in its length or its last 16 bytes; or it agrees in both and is not a valid sealing,
@@ -39,12 +44,6 @@ PassedWhole s tag len left left' taken taken' r =
 abbrev pub MakesTag : Setting → List ℕ → List ℕ → List ℕ → Type 0
 MakesTag s tag made body = Fits s body × (made ≡ tag_of s (masked (mask_of s tag) 0 body))
 
--- the tag over the authenticated bytes of a body is the tag of the text that the body decrypts to
-abbrev pub MakesTextTag : ((ℕ → ℕ) → List ℕ → List ℕ) → Setting → List ℕ → Type 0
-MakesTextTag hashed s tag =
-    (body : List ℕ) → tag_over s.suite s.key s.nonce s.aad (hashed (mask_of s tag) body)
-    ≡ tag_of s (masked (mask_of s tag) 0 body)
-
 -- the body of a reading, n bytes of it, was taken, and `made` is the tag of the text that it decrypts to
 abbrev pub PassesBody : Setting → List ℕ → ℕ → Option (List ℕ) → Option (List ℕ) → Option (List ℕ)
     → Option (List ℕ) → ℕ → List ℕ → Type 0
@@ -62,3 +61,10 @@ pub record Tail (tag : List ℕ) (left left' : Option (List ℕ)) (b : Bool) : T
 abbrev pub Ends : List ℕ → Option (List ℕ) → Option (List ℕ) → Result Bool Fault → Type 0
 Ends tag left left' r = MatchResult r (λ b. Tail tag left left' b)
     (λ _. (bytes : List ℕ) × Consumes left left' bytes)
+
+-- the opening of a message begins with these keys and this state. If its readings are verified without being decrypted, every
+-- number of its masks is a byte.
+pub record BeginsOpening (k : MessageKeys) (p : PassState) (s : Setting) : Type 0 where
+  pub keys_are : AreKeysOf k s
+  pub state_is : HoldsNumbers p s []
+  pub bytes : is_one_pass (construction_of s.suite) ≡ true → MasksByBytes s

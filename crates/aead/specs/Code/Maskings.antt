@@ -1,40 +1,47 @@
--- The state of a message in pieces, in terms of the pieces that it has taken in.
-use Rattle.std.specs.Prelude.{◌≡◌, ℕ, ◌≤◌, List, length}
+-- The stages of the stream engines, in terms of the pieces that they have taken in.
+use Rattle.std.specs.Prelude.{◌≡◌, ℕ, ◌+◌, ◌-◌, List, length, replicate}
 use Rattle.octets.specs.declared.work.Order.{Order}
-use Rattle.octets.specs.declared.work.Order.TheVariants.{HashFirst}
-use Rattle.aead.specs.declared.masking.Masking.{Masking}
-use Rattle.aead.specs.Suites.{text_limit}
-use Rattle.aead.specs.Sealing.{Setting, mask_of, tag_of}
-use Rattle.aead.specs.Code.States.{HoldsAuthenticator}
+use Rattle.aead.specs.declared.engine.stage.Masking.{Masking}
+use Rattle.aead.specs.declared.engine.stage.Reading.{Reading}
+use Rattle.aead.specs.declared.keys.MessageKeys.{MessageKeys}
+use Rattle.aead.specs.declared.pass_state.PassState.{PassState}
+use Rattle.aead.specs.Suites.{text_limit_by}
+use Rattle.aead.specs.Sealing.{Setting, mask_of}
+use Rattle.aead.specs.PassStates.{HoldsNumbers}
 use Rattle.aead.specs.Code.Masks.{hashed_by}
+use Rattle.aead.specs.Code.MessageKeys.{construction_by, AreKeysOf}
 
--- a message whose pieces are masked and authenticated, in this order, and the limit of its length
+-- a message whose pieces are masked and authenticated, in this order, with the mask for this tag
 pub record Task : Type 0 where
   pub order : Order
-  -- the greatest length of all pieces together
-  pub limit : ℕ
   pub setting : Setting
   pub tag : List ℕ
+
+-- the task of a message under this tag
+abbrev pub message_task : Order → Setting → List ℕ → Task
+message_task o s tag = record { order = o; setting = s; tag = tag }
 
 -- the mask of a task
 abbrev pub task_mask : Task → ℕ → ℕ
 task_mask t = mask_of t.setting t.tag
 
--- m belongs to this task and has taken in these pieces. `made` and `held` say what its mask and its hash have done.
-pub record HoldsMasking {S H : Type 0} (made : S → Setting → List ℕ → ℕ → Type 0)
-    (held : H → Setting → List ℕ → Type 0) (t : Task) (m : Masking S H) (fed : List ℕ) : Type 0 where
+-- the tag where the mask does not depend on it
+abbrev pub no_tag : List ℕ
+no_tag = replicate 16 0
+
+-- a state under these keys can take in fewer bytes than this
+abbrev pub room_under : MessageKeys → PassState → ℕ
+room_under k p = text_limit_by (construction_by k.cipher) + 1 - p.length
+
+-- m belongs to this task and has taken in these pieces
+pub record HoldsMasking (t : Task) (m : Masking) (fed : List ℕ) : Type 0 where
+  pub keys_are : AreKeysOf m.keys.now t.setting
   pub order_is : m.order ≡ t.order
-  pub limit_is : m.limit ≡ t.limit
-  pub mask_is : made m.mask t.setting t.tag (length fed)
-  pub taken : HoldsAuthenticator held m.authenticator t.setting (hashed_by t.order (task_mask t) fed)
-  pub count_is : m.authenticator.length ≡ length fed
-  pub within : length fed ≤ t.limit
-  pub limit_fits : t.limit ≤ text_limit t.setting.suite
+  pub tag_is : m.tag ≡ t.tag
+  pub taken : HoldsNumbers m.state t.setting (hashed_by t.order (task_mask t) fed)
+  pub count_is : m.state.length ≡ length fed
 
--- the task of sealing a text or opening a body under this tag
-abbrev pub message_task : Order → Setting → List ℕ → Task
-message_task o s tag = record { order = o; limit = text_limit s.suite; setting = s; tag = tag }
-
--- the task of encrypting a text for the second time, when its tag is known
-abbrev pub repeating_task : Setting → List ℕ → Task
-repeating_task s first = record { order = HashFirst; limit = length first; setting = s; tag = tag_of s first }
+-- r belongs to a message and has authenticated these pieces
+pub record HoldsReading (s : Setting) (r : Reading) (fed : List ℕ) : Type 0 where
+  pub keys_are : AreKeysOf r.keys.now s
+  pub taken : HoldsNumbers r.state s fed

@@ -40,8 +40,6 @@ struct Last {
 impl Stage for Last {
     ghost Message = { ⊤ };
 
-    ghost limit = { λ _. 2 ^ 64 };
-
     ghost mask = { λ _ _. 0 };
 
     ghost holds = { λ _ last fed. last.bytes ≡ drop (length fed) (replicate 16 0 ++ fed) };

@@ -1,98 +1,91 @@
-//! A whole reading of a sealing, which is decrypted and authenticated as it goes.
+//! The second and the third reading of the stream opener: a whole reading of a sealing, which is authenticated as it goes.
 
-ghost use Rattle.std.specs.Prelude.{◌+◌, ◌≤◌, [], length};
-ghost use Rattle.aead.specs.Refusals.{DueToBoth};
-ghost use Rattle.aead.specs.Suites.{text_limit, aad_limit};
-ghost use Rattle.aead.specs.Ciphers.{setting};
-ghost use Rattle.aead.specs.AnyCiphers.{keyed_of};
-ghost use Rattle.aead.specs.Code.Findings.{PassedWhole};
+ghost use Rattle.std.specs.Prelude.{◌≡◌, ◌+◌, ◌≤◌, [], None, true};
+ghost use Rattle.aead.specs.Refusals.{DueToReading, DueToBoth};
+ghost use Rattle.aead.specs.Suites.{is_one_pass, text_limit_by};
+ghost use Rattle.aead.specs.Sealing.{Setting};
+ghost use Rattle.aead.specs.PassStates.{HoldsNumbers};
+ghost use Rattle.aead.specs.Code.MessageKeys.{construction_by, AreKeysOf};
+ghost use Rattle.aead.specs.Code.Findings.{BeginsOpening, PassedWhole};
 
-use crate::any::{AnyAead, AnyOnePass};
+use crate::engine::discard::Discard;
 use crate::engine::measure::Measured;
-use crate::engine::passes::{Finding, pass};
-use crate::masking::Masking;
-use crate::message::Message;
-use crate::one_pass::OnePass;
-use crate::two_pass::TwoPass;
-use gf128::{Keyed128, WideMul};
-use octets::{Fault, Intake, Nonce, Order, Outlet};
+use crate::engine::passes::{Finding, finding_of, pass_body};
+use crate::engine::stage::{Masking, Reading};
+use crate::keys::{CipherKeys, MessageKeys};
+use crate::pass_state::PassState;
+use octets::{Fault, Intake, Outlet};
 
-// Opens a whole reading by a cipher with a nonce whose tag is over the ciphertext.
-fn open_one_pass<N: OnePass, I: Intake, O: Outlet>(
-    message: &N,
-    aad: &[u8],
-    intake: &mut I,
-    measured: &Measured,
-    outlet: &mut O,
-) -> Result<Finding, Fault>
-    requires aad_fits { length aad.now ≤ aad_limit (N.keyed message.now).suite }
-    requires high { measured.now.length ≤ text_limit (N.keyed message.now).suite + 16 }
-    ensures passed { PassedWhole (setting (N.keyed message.now) (N.nonce message.now) aad.now)
-        measured.now.tag measured.now.length (I.left intake.old) (I.left intake.new)
-        (O.taken outlet.old) (O.taken outlet.new) result }
-    ensures blame { DueToBoth [] (I.failures intake.old) (I.failures intake.new) (O.failures outlet.old)
-        (O.failures outlet.new) result }
-{
-    let limit = message.suite().text_limit();
-    let mut opening = Masking::empty(Order::HashFirst, message.mask(), message.hash(), limit);
-    opening.begin(aad);
-    pass(message, intake, opening, measured, outlet)
-}
-
-// Opens a whole reading by a cipher with a nonce whose tag is over the text.
-fn open_two_pass<N: TwoPass, I: Intake, O: Outlet>(
-    message: &N,
-    aad: &[u8],
-    intake: &mut I,
-    measured: &Measured,
-    outlet: &mut O,
-) -> Result<Finding, Fault>
-    requires aad_fits { length aad.now ≤ aad_limit (N.keyed message.now).suite }
-    requires high { measured.now.length ≤ text_limit (N.keyed message.now).suite + 16 }
-    ensures passed { PassedWhole (setting (N.keyed message.now) (N.nonce message.now) aad.now)
-        measured.now.tag measured.now.length (I.left intake.old) (I.left intake.new)
-        (O.taken outlet.old) (O.taken outlet.new) result }
-    ensures blame { DueToBoth [] (I.failures intake.old) (I.failures intake.new) (O.failures outlet.old)
-        (O.failures outlet.new) result }
-{
-    let limit = message.suite().text_limit();
-    let mask = message.mask(&measured.tag);
-    let mut opening = Masking::empty(Order::MaskFirst, mask, message.hash(), limit);
-    opening.begin(aad);
-    pass(message, intake, opening, measured, outlet)
-}
-
-// Opens a whole reading by a cipher of any suite.
+// Decrypts, authenticates and gives a whole reading: the body of the measured length, the measured tag, and the end.
 pub(crate) fn pass_opening<I: Intake, O: Outlet>(
-    cipher: &AnyAead,
-    nonce: &Nonce,
-    aad: &[u8],
+    keys: &MessageKeys,
+    state: &PassState,
     intake: &mut I,
     measured: &Measured,
     outlet: &mut O,
 ) -> Result<Finding, Fault>
-    requires aad_fits { length aad.now ≤ aad_limit (keyed_of cipher.now).suite }
-    requires high { measured.now.length ≤ text_limit (keyed_of cipher.now).suite + 16 }
-    ensures passed { PassedWhole (setting (keyed_of cipher.now) nonce.now aad.now)
-        measured.now.tag measured.now.length (I.left intake.old) (I.left intake.new)
+    requires empty { state.now.length ≡ 0 }
+    requires high { measured.now.length ≤ text_limit_by (construction_by keys.now.cipher) + 16 }
+    ensures passed { (s : Setting) → AreKeysOf keys.now s → HoldsNumbers state.now s [] →
+        PassedWhole s measured.now.tag measured.now.length (I.left intake.old) (I.left intake.new)
         (O.taken outlet.old) (O.taken outlet.new) result }
     ensures blame { DueToBoth [] (I.failures intake.old) (I.failures intake.new) (O.failures outlet.old)
         (O.failures outlet.new) result }
 {
-    match cipher {
-        AnyAead::OnePass(AnyOnePass::ChaCha(cipher)) => {
-            open_one_pass(&cipher.nonced(nonce), aad, intake, measured, outlet)
-        }
-        AnyAead::OnePass(AnyOnePass::Gcm(cipher)) => {
-            let multiplier = cipher.wide_multiplier();
-            let message = cipher.nonced(nonce, &multiplier);
-            open_one_pass(&message, aad, intake, measured, outlet)
-        }
-        AnyAead::Siv(cipher) => {
-            let keys = cipher.derive(nonce);
-            let multiplier = WideMul::of(&keys.hash_key);
-            let message = cipher.nonced(nonce, &keys.encryption, &multiplier);
-            open_two_pass(&message, aad, intake, measured, outlet)
-        }
+    let mut opening = Masking {
+        keys,
+        state: *state,
+        order: keys.order_of_opening(),
+        tag: *measured.tag.bytes(),
+    };
+    match pass_body(intake, &mut opening, measured.length - 16, outlet) {
+        Ok(n) => finding_of(intake, measured, n, keys.tag(&opening.state)),
+        Err(fault) => Err(fault),
+    }
+}
+
+// Authenticates a whole reading without decrypting it.
+fn pass_sealed<I: Intake>(
+    keys: &MessageKeys,
+    state: &PassState,
+    intake: &mut I,
+    measured: &Measured,
+) -> Result<Finding, Fault>
+    requires empty { state.now.length ≡ 0 }
+    requires high { measured.now.length ≤ text_limit_by (construction_by keys.now.cipher) + 16 }
+    ensures passed { (s : Setting) → is_one_pass (construction_by keys.now.cipher) ≡ true
+        → BeginsOpening keys.now state.now s →
+        PassedWhole s measured.now.tag measured.now.length (I.left intake.old) (I.left intake.new) None None result }
+    ensures blame { DueToReading [] (I.failures intake.old) (I.failures intake.new) result }
+{
+    let mut reading = Reading {
+        keys,
+        state: *state,
+    };
+    match pass_body(intake, &mut reading, measured.length - 16, &mut Discard) {
+        Ok(n) => finding_of(intake, measured, n, keys.tag(&reading.state)),
+        Err(_) => Err(Fault::Read),
+    }
+}
+
+// Authenticates a whole reading and gives nothing. It is decrypted only under AES-GCM-SIV, whose tag is over the text.
+pub(crate) fn verify_reading<I: Intake>(
+    keys: &MessageKeys,
+    state: &PassState,
+    intake: &mut I,
+    measured: &Measured,
+) -> Result<Finding, Fault>
+    requires empty { state.now.length ≡ 0 }
+    requires high { measured.now.length ≤ text_limit_by (construction_by keys.now.cipher) + 16 }
+    ensures passed { (s : Setting) → BeginsOpening keys.now state.now s →
+        PassedWhole s measured.now.tag measured.now.length (I.left intake.old) (I.left intake.new) None None result }
+    ensures blame { DueToReading [] (I.failures intake.old) (I.failures intake.new) result }
+{
+    match keys.cipher {
+        CipherKeys::ChaCha(_) | CipherKeys::Gcm(_) => pass_sealed(keys, state, intake, measured),
+        CipherKeys::Siv(_) => match pass_opening(keys, state, intake, measured, &mut Discard) {
+            Ok(finding) => Ok(finding),
+            Err(_) => Err(Fault::Read),
+        },
     }
 }

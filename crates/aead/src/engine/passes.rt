@@ -1,19 +1,13 @@
 //! One pass over a reading, piece by piece: a stage takes in each piece, which is given before the next one is taken. To
 //! measure, to verify and to write differ in their stage and their outlet.
 
-ghost use Rattle.std.specs.Prelude.{ℕ, ◌+◌, ◌<◌, ◌≤◌, List, [], length, Option, IfOk};
-ghost use Rattle.octets.specs.declared.work.Order.{Order};
+ghost use Rattle.std.specs.Prelude.{ℕ, ◌+◌, ◌<◌, ◌≤◌, List, [], length, Option, IfOk, IfSome};
 ghost use Rattle.aead.specs.Refusals.{DueToReading, DueToBoth};
 ghost use Rattle.aead.specs.Sealing.{Setting};
-ghost use Rattle.aead.specs.Ciphers.{setting};
-ghost use Rattle.aead.specs.Code.Masks.{hashed_by};
-ghost use Rattle.aead.specs.Code.Maskings.{HoldsMasking, message_task};
 ghost use Rattle.aead.specs.Code.Passes.{Passed};
 
 use crate::engine::measure::Measured;
 use crate::engine::stage::Stage;
-use crate::masking::Masking;
-use crate::message::Message;
 use octets::{Fault, Intake, Outlet, Tag, fill, give_all, same};
 
 // How a reading compares with the measured one.
@@ -27,7 +21,7 @@ pub(crate) enum Finding {
     Sealed,
 }
 
-ghost use Rattle.aead.specs.Code.Findings.{PassedWhole, PassesBody, MakesTextTag, Ends};
+ghost use Rattle.aead.specs.Code.Findings.{PassedWhole, PassesBody, Ends};
 ghost use Rattle.aead.specs.Code.Extents.{PassedAll, HasMore};
 
 // Passes one piece: fills the buffer as far as the reading goes, and gives the bytes as the stage has left them.
@@ -39,8 +33,7 @@ fn pass_piece<I: Intake, S: Stage, O: Outlet>(
 ) -> Result<usize, Fault>
     requires { length buf.old < S.room stage.old }
     ensures bound { IfOk result (λ n. n ≤ length buf.old) }
-    ensures passed { (m : S.Message) (fed : List ℕ) → S.holds m stage.old fed
-        → length fed + length buf.old ≤ S.limit m →
+    ensures passed { (m : S.Message) (fed : List ℕ) → S.holds m stage.old fed →
         Passed (S.holds m) (S.mask m) fed (length buf.old)
         (I.left intake.old) (I.left intake.new) (O.taken outlet.old) (O.taken outlet.new) stage.new result }
     ensures blame { DueToBoth [] (I.failures intake.old) (I.failures intake.new) (O.failures outlet.old)
@@ -67,7 +60,8 @@ pub(crate) fn pass_body<I: Intake, S: Stage, O: Outlet>(
     outlet: &mut O,
 ) -> Result<u64, Fault>
     requires { length < S.room stage.old }
-    ensures passed { (m : S.Message) → S.holds m stage.old [] → length ≤ S.limit m →
+    ensures bound { IfOk result (λ n. n ≤ length) }
+    ensures passed { (m : S.Message) → S.holds m stage.old [] →
         Passed (S.holds m) (S.mask m) [] length
         (I.left intake.old) (I.left intake.new) (O.taken outlet.old) (O.taken outlet.new) stage.new result }
     ensures blame { DueToBoth [] (I.failures intake.old) (I.failures intake.new) (O.failures outlet.old)
@@ -127,29 +121,6 @@ pub(crate) fn finding_of<I: Intake>(
     }
 }
 
-// Passes a whole reading of a message: the body of the measured length, the measured tag, and the end.
-pub(crate) fn pass<N: Message, I: Intake, O: Outlet>(
-    message: &N,
-    intake: &mut I,
-    mut opening: Masking<N::Stream, N::Hash>,
-    measured: &Measured,
-    outlet: &mut O,
-) -> Result<Finding, Fault>
-    requires { opening.authenticator.length + measured.now.length ≤ opening.limit + 16 }
-    ensures passed { (o : Order) (aad : List ℕ) → let s = setting (N.keyed message.now) (N.nonce message.now) aad in
-        HoldsMasking N.Stream.made N.Hash.held (message_task o s measured.now.tag) opening []
-        → MakesTextTag (hashed_by o) s measured.now.tag →
-        PassedWhole s measured.now.tag measured.now.length (I.left intake.old) (I.left intake.new)
-        (O.taken outlet.old) (O.taken outlet.new) result }
-    ensures blame { DueToBoth [] (I.failures intake.old) (I.failures intake.new) (O.failures outlet.old)
-        (O.failures outlet.new) result }
-{
-    match pass_body(intake, &mut opening, measured.length - 16, outlet) {
-        Ok(n) => finding_of(intake, measured, n, message.tag(&opening.finish())),
-        Err(fault) => Err(fault),
-    }
-}
-
 // Returns whether anything is left of a reading.
 pub(crate) fn has_more<I: Intake>(intake: &mut I) -> Result<bool, Fault>
     ensures more { HasMore (I.left intake.old) (I.left intake.new) result }
@@ -171,7 +142,8 @@ pub(crate) fn pass_all<I: Intake, S: Stage, O: Outlet>(
     outlet: &mut O,
 ) -> Result<Option<u64>, Fault>
     requires { length < S.room stage.old }
-    ensures passed { (m : S.Message) → S.holds m stage.old [] → length ≤ S.limit m →
+    ensures bound { IfOk result (λ e. IfSome e (λ n. n ≤ length)) }
+    ensures passed { (m : S.Message) → S.holds m stage.old [] →
         PassedAll (S.holds m) (S.mask m) length
         (I.left intake.old) (I.left intake.new) (O.taken outlet.old) (O.taken outlet.new) stage.new result }
     ensures blame { DueToBoth [] (I.failures intake.old) (I.failures intake.new) (O.failures outlet.old)

@@ -3,37 +3,44 @@
 ghost use Rattle.std.specs.Prelude.{◌≡◌, ◌↔◌, ◌<◌, ◌≤◌, ◌∷◌, [], length, true};
 ghost use Rattle.aead.specs.Refusals.{DueToBoth, late_in_one_reading, UntouchedUnless};
 ghost use Rattle.aead.specs.Suites.{construction_of, is_one_pass, aad_limit};
+ghost use Rattle.aead.specs.Sealing.{Setting};
 ghost use Rattle.aead.specs.Ciphers.{setting};
 ghost use Rattle.aead.specs.AnyCiphers.{one_pass_keyed};
+ghost use Rattle.aead.specs.PassStates.{HoldsNumbers};
+ghost use Rattle.aead.specs.Code.MessageKeys.{AreKeysOf};
 ghost use Rattle.aead.specs.SealStream.{SealsStream, IfTextKnown};
 
 use crate::aead::Aead;
-use crate::any::AnyOnePass;
+use crate::any::{AnyOnePass, gcm_keys};
 use crate::engine::passes::pass_all;
-use crate::masking::Masking;
-use crate::message::Message;
-use crate::one_pass::OnePass;
+use crate::engine::stage::Masking;
+use crate::keys::{LentMul, MessageKeys};
+use crate::pass_state::PassState;
 use octets::{Fault, Intake, Nonce, Order, Outlet, give_all};
 
-// Seals a stream in one reading, by a cipher with a nonce.
-fn seal_over<N: OnePass, I: Intake, O: Outlet>(
-    message: &N,
-    aad: &[u8],
+// Seals a stream in one reading, from the keys of a message and the initial state of its pass.
+fn seal_over<I: Intake, O: Outlet>(
+    keys: &MessageKeys,
+    state: &PassState,
     text: &mut I,
     out: &mut O,
 ) -> Result<(), Fault>
-    requires { length aad.now ≤ aad_limit (N.keyed message.now).suite }
+    requires { state.now.length ≡ 0 }
     ensures blame { DueToBoth (Fault.TextTooLong ∷ []) (I.failures text.old) (I.failures text.new)
         (O.failures out.old) (O.failures out.new) result }
-    ensures seals { IfTextKnown (I.left text.old) (O.taken out.old) (O.taken out.new)
-        (λ x given. SealsStream (setting (N.keyed message.now) (N.nonce message.now) aad.now) x given
-        (I.failures text.old) (I.failures text.new) (O.failures out.old) (O.failures out.new) result) }
+    ensures seals { (s : Setting) → AreKeysOf keys.now s → HoldsNumbers state.now s []
+        → is_one_pass (construction_of s.suite) ≡ true → IfTextKnown (I.left text.old) (O.taken out.old) (O.taken out.new)
+        (λ x given. SealsStream s x given (I.failures text.old) (I.failures text.new) (O.failures out.old)
+        (O.failures out.new) result) }
 {
-    let limit = message.suite().text_limit();
-    let mut sealing = Masking::empty(Order::MaskFirst, message.mask(), message.hash(), limit);
-    sealing.begin(aad);
-    match pass_all(text, &mut sealing, limit, out) {
-        Ok(Some(_)) => match give_all(out, message.tag(&sealing.finish()).bytes()) {
+    let mut sealing = Masking {
+        keys,
+        state: *state,
+        order: Order::MaskFirst,
+        tag: [0; 16],
+    };
+    match pass_all(text, &mut sealing, keys.text_limit(), out) {
+        Ok(Some(_)) => match give_all(out, keys.tag(&sealing.state).bytes()) {
             Ok(()) => Ok(()),
             Err(_) => Err(Fault::Write),
         },
@@ -71,11 +78,13 @@ pub fn seal_stream<I: Intake, O: Outlet>(
     ensures untouched { UntouchedUnless late_in_one_reading out.old out.new result }
 {
     cipher.suite().check_aad(aad)?;
+    let state = cipher.initial_state(nonce, aad);
     match cipher {
-        AnyOnePass::ChaCha(cipher) => seal_over(&cipher.nonced(nonce), aad, text, out),
+        AnyOnePass::ChaCha(_) => seal_over(&cipher.keys(nonce), &state, text, out),
         AnyOnePass::Gcm(cipher) => {
             let multiplier = cipher.wide_multiplier();
-            seal_over(&cipher.nonced(nonce, &multiplier), aad, text, out)
+            let keys = gcm_keys(cipher, nonce, LentMul::Wide(&multiplier));
+            seal_over(&keys, &state, text, out)
         }
     }
 }

@@ -3,55 +3,61 @@
 
 ghost use Rattle.std.specs.Prelude.{◌≡◌, ◌↔◌, ◌<◌, ◌≤◌, ◌∷◌, ℕ, List, [], length, IfSome, IsTrue};
 ghost use Rattle.aead.specs.Refusals.{DueToBoth, late_in_readings, UntouchedUnless};
-ghost use Rattle.aead.specs.Suites.{ByGcmSiv, construction_of, aad_limit};
-ghost use Rattle.aead.specs.Sealing.{tag_of};
+ghost use Rattle.aead.specs.Suites.{ByGcmSiv, construction_of, text_limit_by, aad_limit};
+ghost use Rattle.aead.specs.Sealing.{Setting, tag_of};
 ghost use Rattle.aead.specs.Ciphers.{setting};
-ghost use Rattle.aead.specs.Code.Maskings.{HoldsMasking, repeating_task};
+ghost use Rattle.aead.specs.PassStates.{HoldsNumbers};
+ghost use Rattle.aead.specs.Code.MessageKeys.{construction_by, AreKeysOf};
 ghost use Rattle.aead.specs.Pieces.{Repeats};
 ghost use Rattle.aead.specs.SealSivStream.{WritesAgain, SealsSivStream, SivBlames, IfBothKnown};
 
 use crate::aead::Aead;
-use crate::authenticator::Authenticator;
 use crate::engine::discard::Discard;
 use crate::engine::passes::pass_all;
+use crate::engine::stage::{Masking, Reading};
 use crate::gcm_siv::GcmSiv;
-use crate::masking::Masking;
-use crate::message::Message;
-use crate::two_pass::TwoPass;
+use crate::keys::{LentMul, MessageKeys};
+use crate::pass_state::PassState;
 use gf128::{Keyed128, WideMul};
 use octets::{Fault, Intake, Nonce, Order, Outlet, Tag, give_all, same};
 
 // Returns whether a second reading has the length and the tag of the first one.
-fn repeats<N: TwoPass>(message: &N, again: Masking<N::Stream, N::Hash>, tag: &Tag) -> bool
-    ensures { (aad first text : List ℕ) → let s = setting (N.keyed message.now) (N.nonce message.now) aad in
-        tag.now ≡ tag_of s first → HoldsMasking N.Stream.made N.Hash.held (repeating_task s first) again text
+fn repeats(keys: &MessageKeys, again: &PassState, first_length: u64, tag: &Tag) -> bool
+    ensures { (s : Setting) (first text : List ℕ) → construction_of s.suite ≡ ByGcmSiv → AreKeysOf keys.now s
+        → first_length ≡ length first → tag.now ≡ tag_of s first → HoldsNumbers again.now s text
         → IsTrue result ↔ Repeats s first text }
 {
-    let missing = again.limit - again.authenticator.length;
-    missing == 0 && same(message.tag(&again.finish()).bytes(), tag.bytes())
+    again.length == first_length && same(keys.tag(again).bytes(), tag.bytes())
 }
 
 // Encrypts a second reading and gives it, and then gives the tag if the reading repeats the first one.
-fn write_again<N: TwoPass, J: Intake, O: Outlet>(
-    message: &N,
-    intake: &mut J,
-    mut again: Masking<N::Stream, N::Hash>,
+fn write_again<J: Intake, O: Outlet>(
+    keys: &MessageKeys,
+    state: &PassState,
+    first_length: u64,
     tag: &Tag,
+    intake: &mut J,
     outlet: &mut O,
 ) -> Result<(), Fault>
-    requires { again.authenticator.length ≡ 0 }
-    ensures written { (aad first : List ℕ) → let s = setting (N.keyed message.now) (N.nonce message.now) aad in
-        tag.now ≡ tag_of s first → HoldsMasking N.Stream.made N.Hash.held (repeating_task s first) again [] →
+    requires empty { state.now.length ≡ 0 }
+    requires fits { first_length ≤ text_limit_by (construction_by keys.now.cipher) }
+    ensures written { (s : Setting) (first : List ℕ) → construction_of s.suite ≡ ByGcmSiv → AreKeysOf keys.now s
+        → HoldsNumbers state.now s [] → first_length ≡ length first → tag.now ≡ tag_of s first →
         IfSome (J.left intake.old) (λ b. WritesAgain s first b (O.taken outlet.old) (O.taken outlet.new)
         (J.failures intake.old) (J.failures intake.new) (O.failures outlet.old) (O.failures outlet.new)
         result) }
     ensures blame { DueToBoth (Fault.SourceChanged ∷ []) (J.failures intake.old) (J.failures intake.new)
         (O.failures outlet.old) (O.failures outlet.new) result }
 {
-    let length = again.limit;
-    match pass_all(intake, &mut again, length, outlet) {
+    let mut again = Masking {
+        keys,
+        state: *state,
+        order: Order::HashFirst,
+        tag: *tag.bytes(),
+    };
+    match pass_all(intake, &mut again, first_length, outlet) {
         Ok(Some(_)) => {
-            if repeats(message, again, tag) {
+            if repeats(keys, &again.state, first_length, tag) {
                 match give_all(outlet, tag.bytes()) {
                     Ok(()) => Ok(()),
                     Err(_) => Err(Fault::Write),
@@ -65,45 +71,36 @@ fn write_again<N: TwoPass, J: Intake, O: Outlet>(
     }
 }
 
-// Seals a stream in two readings, by a cipher with a nonce.
-fn seal_over<N: TwoPass, I: Intake, J: Intake, O: Outlet>(
-    message: &N,
-    aad: &[u8],
+// Seals a stream in two readings, from the keys of a message and the initial state of both passes.
+fn seal_over<I: Intake, J: Intake, O: Outlet>(
+    keys: &MessageKeys,
+    state: &PassState,
     first: &mut I,
     second: &mut J,
     out: &mut O,
 ) -> Result<(), Fault>
-    requires { length aad.now ≤ aad_limit (N.keyed message.now).suite }
+    requires { state.now.length ≡ 0 }
     ensures blame { SivBlames (Fault.TextTooLong ∷ Fault.SourceChanged ∷ [])
         (record { first = I.failures first.old; second = J.failures second.old; outlet = O.failures out.old })
         (record { first = I.failures first.new; second = J.failures second.new; outlet = O.failures out.new })
         result }
-    ensures seals { IfBothKnown (I.left first.old) (J.left second.old) (O.taken out.old) (O.taken out.new)
-        (λ a b given. SealsSivStream (setting (N.keyed message.now) (N.nonce message.now) aad.now)
-        a b given
+    ensures seals { (s : Setting) → construction_of s.suite ≡ ByGcmSiv → AreKeysOf keys.now s
+        → HoldsNumbers state.now s []
+        → IfBothKnown (I.left first.old) (J.left second.old) (O.taken out.old) (O.taken out.new)
+        (λ a b given. SealsSivStream s a b given
         (record { first = I.failures first.old; second = J.failures second.old; outlet = O.failures out.old })
         (record { first = I.failures first.new; second = J.failures second.new; outlet = O.failures out.new })
         result) }
     ensures untouched { UntouchedUnless late_in_readings out.old out.new result }
 {
-    let mut reading = Authenticator::empty(message.hash());
-    reading.begin(aad);
-    match pass_all(
-        first,
-        &mut reading,
-        message.suite().text_limit(),
-        &mut Discard,
-    ) {
-        Ok(Some(length)) => {
-            let tag = message.tag(&reading.finish());
-            let mut again = Masking::empty(
-                Order::HashFirst,
-                message.mask(&tag),
-                message.hash(),
-                length,
-            );
-            again.begin(aad);
-            write_again(message, second, again, &tag, out)
+    let mut reading = Reading {
+        keys,
+        state: *state,
+    };
+    match pass_all(first, &mut reading, keys.text_limit(), &mut Discard) {
+        Ok(Some(first_length)) => {
+            let tag = keys.tag(&reading.state);
+            write_again(keys, state, first_length, &tag, second, out)
         }
         Ok(None) => Err(Fault::TextTooLong),
         Err(_) => Err(Fault::Read),
@@ -146,8 +143,9 @@ pub fn seal_siv_stream<I: Intake, J: Intake, O: Outlet>(
     ensures untouched { UntouchedUnless late_in_readings out.old out.new result }
 {
     cipher.suite().check_aad(aad)?;
-    let keys = cipher.derive(nonce);
-    let multiplier = WideMul::of(&keys.hash_key);
-    let message = cipher.nonced(nonce, &keys.encryption, &multiplier);
-    seal_over(&message, aad, first, second, out)
+    let derived = cipher.derive(nonce);
+    let state = derived.initial_state(aad);
+    let multiplier = WideMul::of(&derived.hash_key);
+    let keys = derived.message_keys(nonce, LentMul::Wide(&multiplier));
+    seal_over(&keys, &state, first, second, out)
 }

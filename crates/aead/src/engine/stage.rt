@@ -1,25 +1,19 @@
 //! The stages of a pass over a reading: what is done with each piece. Two of them are here, and `measure` has the third.
 
-ghost use Rattle.std.specs.Prelude.{◌≡◌, ◌+◌, ◌-◌, ◌<◌, ◌≤◌, ◌^◌, ◌++◌, ℕ, List, length};
+ghost use Rattle.std.specs.Prelude.{◌≡◌, ◌+◌, ◌<◌, ◌≤◌, ◌++◌, ℕ, List, length};
 ghost use Rattle.octets.specs.Masked.{masked};
-ghost use Rattle.aead.specs.Suites.{text_limit};
 ghost use Rattle.aead.specs.Sealing.{Setting};
-ghost use Rattle.aead.specs.Code.States.{HoldsAuthenticator};
-ghost use Rattle.aead.specs.Code.Maskings.{Task, HoldsMasking, task_mask};
+ghost use Rattle.aead.specs.Code.Maskings.{Task, HoldsMasking, HoldsReading, room_under, task_mask};
 
-use crate::authenticator::Authenticator;
-use crate::hashes::TagHash;
-use crate::mask::MaskStream;
-use crate::masking::Masking;
-use crate::step::step;
+use crate::keys::MessageKeys;
+use crate::pass_state::PassState;
+use aes::KnownBlock;
+use octets::Order;
 
 // The stage of a pass, between the reading and the outlet: it takes in each piece, and may mask it before it is given.
 pub(crate) trait Stage {
     // The message whose pieces it takes in.
     ghost Message: { Type 0 };
-
-    // The most bytes that the pieces of a message may have together.
-    ghost limit: { Message → ℕ };
 
     // The bytes that are XORed into the pieces of a message: zeros, if the pieces stay as they are.
     ghost mask: { Message → ℕ → ℕ };
@@ -33,41 +27,55 @@ pub(crate) trait Stage {
     // Takes in the next piece, and XORs the mask into it.
     fn take_in(&mut self, piece: &mut [u8])
         requires { length piece.old < room self.old }
-        ensures holds { (m : Message) (fed : List ℕ) → holds m self.old fed → length fed + length piece.old ≤ limit m
+        ensures holds { (m : Message) (fed : List ℕ) → holds m self.old fed
             → holds m self.new (fed ++ piece.old) × (piece.new ≡ masked (mask m) (length fed) piece.old) }
         ensures room { room self.old ≤ room self.new + length piece.old };
 }
 
-// The pieces are masked and authenticated, in the order of the message.
-impl<S: MaskStream, H: TagHash> Stage for Masking<S, H> {
-    ghost Message = { Task };
+// The keys of a message and the state of its pass. Each piece is masked in place and authenticated, in this order.
+#[derive(Drop)]
+pub(crate) struct Masking<'a> {
+    pub(crate) keys: &'a MessageKeys<'a>,
+    pub(crate) state: PassState,
+    pub(crate) order: Order,
+    // The tag of the message, or zeros where the mask does not depend on it.
+    pub(crate) tag: [u8; 16],
+}
 
-    ghost limit = { λ t. t.limit };
+// Each piece begins at a block of AES, since only the last one does not fill the buffer: no block is known before it.
+impl<'a> Stage for Masking<'a> {
+    ghost Message = { Task };
 
     ghost mask = { task_mask };
 
-    ghost holds = { HoldsMasking S.made H.held };
+    ghost holds = { HoldsMasking };
 
-    ghost room = { λ m. m.limit + 1 - m.authenticator.length };
+    ghost room = { λ m. room_under m.keys.now m.state };
 
     fn take_in(&mut self, piece: &mut [u8]) {
-        step(self.order, &mut self.mask, &mut self.authenticator, piece);
+        let mut known = KnownBlock::none();
+        self.keys
+            .mask(&mut self.state, &mut known, self.order, &self.tag, piece);
     }
 }
 
-// The pieces are authenticated, and stay as they are.
-impl<H: TagHash> Stage for Authenticator<H> {
-    ghost Message = { Setting };
+// The keys of a message and the state of its pass. The pieces are authenticated, and stay as they are.
+#[derive(Drop)]
+pub(crate) struct Reading<'a> {
+    pub(crate) keys: &'a MessageKeys<'a>,
+    pub(crate) state: PassState,
+}
 
-    ghost limit = { λ s. text_limit s.suite };
+impl<'a> Stage for Reading<'a> {
+    ghost Message = { Setting };
 
     ghost mask = { λ _ _. 0 };
 
-    ghost holds = { λ s a fed. HoldsAuthenticator H.held a s fed };
+    ghost holds = { HoldsReading };
 
-    ghost room = { λ a. 2 ^ 64 - a.length };
+    ghost room = { λ r. room_under r.keys.now r.state };
 
     fn take_in(&mut self, piece: &mut [u8]) {
-        self.update(piece);
+        self.keys.take(&mut self.state, piece);
     }
 }

@@ -4,8 +4,8 @@ use Rattle.aead.specs.KeyedPasses.{cipher_key}
 use Rattle.aead.specs.Code.States.{MadeByCounter, first_counter}
 use Rattle.aead.proofs.aes_pass.mask_expanded.Goals as goal
 
-pub returns : goal.returns
-returns g c = λ s fed by keys nonce long fits h knows.
+pub returns-clause-masks : goal.returns-clause-masks
+returns-clause-masks g c = λ s fed by keys nonce long fits h knows.
     let first = c.first_counter-first.ensures ∙ ap (λ (n : List ℕ). first_counter g.R.Count.MaskCount.by n c.args.tag.now) nonce in
     let holds = subst (λ (b : List ℕ). Holds g.R.Count.Count.up c.at_known-mask.result (cipher_key g.R.Count.MaskCount.by s) b c.args.state.now.length) first
     (subst (λ (k : List ℕ). Holds g.R.Count.Count.up c.at_known-mask.result k c.first_counter-first.result c.args.state.now.length) keys.0

@@ -9,5 +9,5 @@ pub returns : goal.returns
 returns g c = λ s fed by key nonce long fits h.
     let hash = subst (λ (x : Construction). IsHashKey x c.args.state.now.hash_key s) by h.hash_key_is in
     let serves = subst (λ (k : List ℕ). Serves g.R.HashOrder.order (block_key g.R.Count.MaskCount.by s) k)
-    (sym (c.of-few.ensures ∙ c.multiplier_key.ensures)) (g.met.R.Rule.serves s c.args.state.now.hash_key hash) in
+    (sym (c.of-multiplier.ensures ∙ c.multiplier_key.ensures)) (g.met.R.Rule.serves s c.args.state.now.hash_key hash) in
     c.take_text_expanded.ensures s fed by (c.schedule-key.ensures ∙ key, serves) nonce long fits h

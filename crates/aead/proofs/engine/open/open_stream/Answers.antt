@@ -1,17 +1,15 @@
-use Rattle.std.proofs.Common.{◌≡◌, ◌≤◌, ◌<◌, ℕ, List, length, arith, ap, ◌∙◌, subst, Option, Result, Ok, Err}
-use Rattle.std.proofs.Common.{IfSome}
+use Rattle.std.proofs.Common.{◌≡◌, ◌<◌, [], length, arith, ap, refl, sym, subst, true≢false, ◌∙◌, Err}
 use Rattle.std.proofs.lemmas.Result.{err_from_is_err_and}
-use Rattle.octets.specs.declared.fault.Fault.{Fault}
 use Rattle.octets.specs.declared.fault.Fault.TheVariants.{AadTooLong}
-use Rattle.aead.specs.declared.suite.Suite.{Suite}
-use Rattle.aead.specs.declared.engine.measure.Measured.{Measured}
-use Rattle.aead.specs.Suites.{aad_limit, text_limit}
-use Rattle.aead.specs.Code.Returns.{MeasureReturns}
+use Rattle.aead.specs.Suites.{is_one_pass, aad_limit}
 use Rattle.aead.specs.Sealing.{Setting}
-use Rattle.aead.specs.Ciphers.{setting}
-use Rattle.aead.specs.AnyCiphers.{keyed_of}
+use Rattle.aead.specs.Ciphers.{Keyed, setting}
+use Rattle.aead.specs.AnyCiphers.{keyed_of, one_pass_keyed}
+use Rattle.aead.specs.PassStates.{HoldsNumbers}
+use Rattle.aead.specs.Code.Findings.{BeginsOpening}
+use Rattle.aead.specs.Code.MessageKeys.{AreDerived}
 use Rattle.aead.specs.Verdict.{counted}
-use Rattle.aead.proofs.StreamExits.{exit_aad, exit_measure, exit_verify, exit_write}
+use Rattle.aead.proofs.StreamExits.{exit_aad}
 use Rattle.aead.proofs.engine.open.open_stream.Goals as goal
 
 pub returns-in_err-check_aad-clause-opens : goal.returns-in_err-check_aad-clause-opens
@@ -19,7 +17,7 @@ returns-in_err-check_aad-clause-opens g c =
     let s : Setting = setting (keyed_of c.args.cipher.now) c.args.nonce.now
     c.args.aad.now in
     let long : aad_limit s.suite < length s.aad =
-    omega (arith, c.in_err-check_aad.ensures.1, ap aad_limit c.suite-suite.ensures) in
+    omega (arith, c.in_err-check_aad.ensures.1, ap aad_limit c.suite.ensures) in
     let p = err_from_is_err_and c.from_residual.result c.from_residual.ensures.1 in
     let e : c.from_residual.result ≡ Err AadTooLong =
     p.1 ∙ ap Err (p.2 ∙ c.in_err-check_aad.ensures.0) in
@@ -29,59 +27,48 @@ returns-in_err-check_aad-clause-opens g c =
     (g.K.Intake.failures c.args.write.now) (g.O.Outlet.failures c.args.out.now))
     long)
 
--- the result of the measure reading holds for an equal suite
-known_at : (x y : Suite) (lm : Option (List ℕ)) (before after : ℕ) (r : Result Measured Fault) → x ≡ y
-    → IfSome lm (λ m. MeasureReturns (text_limit x) m before after r)
-    → IfSome lm (λ m. MeasureReturns (text_limit y) m before after r)
-known_at x y lm before after r e told = let P : Suite → Type 0 =
-    λ z. IfSome lm (λ m. MeasureReturns (text_limit z) m before after r) in subst P e told
+pub open_over-requires-in-Siv : goal.open_over-requires-in-Siv
+open_over-requires-in-Siv g c =
+    let s : Setting = setting c.in-Siv.cipher c.args.nonce.now c.args.aad.now in
+    let suite = c.suite.ensures ∙ ap (λ k. (keyed_of k).suite) c.in-Siv.is in
+    let d = c.derive-derived.ensures in
+    (c.initial_state-state-in-Siv.ensures s
+    (record { by = d.by; encryption_is = d.encryption; hash_key_is = (d.block, d.hash_key) }) refl
+    (omega (arith, c.in_ok-check_aad.ensures, ap aad_limit suite))).length_is
 
-pub returns-in-Err-clause-opens : goal.returns-in-Err-clause-opens
-returns-in-Err-clause-opens g c =
-    let s : Setting = setting (keyed_of c.args.cipher.now) c.args.nonce.now
-    c.args.aad.now in
-    let fits : length s.aad ≤ aad_limit s.suite =
-    omega (arith, c.in_ok-check_aad.ensures, ap aad_limit c.suite-suite.ensures) in
-    exit_measure (g.I.Intake.left c.args.measure.now) (g.J.Intake.left c.args.verify.now)
-    (g.K.Intake.left c.args.write.now) (g.O.Outlet.taken c.args.out.now) s
-    (g.I.Intake.failures c.args.measure.now) (g.I.Intake.failures c.measure_step.new.intake)
-    (g.J.Intake.failures c.args.verify.now)
-    (g.K.Intake.failures c.args.write.now) (g.O.Outlet.failures c.args.out.now) c.in-Err.fault
-    fits (known_at c.suite-suite.result s.suite (g.I.Intake.left c.args.measure.now)
-    (g.I.Intake.failures c.args.measure.now) (g.I.Intake.failures c.measure_step.new.intake)
-    (Err c.in-Err.fault) c.suite-suite.ensures c.in-Err.ensures.known)
+pub returns-in-ChaCha-clause-opens : goal.returns-in-ChaCha-clause-opens
+returns-in-ChaCha-clause-opens g c =
+    let under = λ (k : Keyed). BeginsOpening c.keys-keys.result c.initial_state-state.result
+    (setting k c.args.nonce.now c.args.aad.now) in
+    let lent = c.keys-keys.ensures c.args.aad.now in
+    let begins : under (one_pass_keyed c.in-OnePass.cipher) =
+    record { keys_are = lent.0; state_is = c.initial_state-state.ensures; bytes = λ _. lent.1 } in
+    c.open_over.ensures.opens _ (subst under (sym (ap keyed_of c.in-OnePass.is)) begins)
 
-pub returns-in-Err-verify_step-clause-opens : goal.returns-in-Err-verify_step-clause-opens
-returns-in-Err-verify_step-clause-opens g c =
-    let s : Setting = setting (keyed_of c.args.cipher.now) c.args.nonce.now
-    c.args.aad.now in
-    let fits : length s.aad ≤ aad_limit s.suite =
-    omega (arith, c.in_ok-check_aad.ensures, ap aad_limit c.suite-suite.ensures) in
-    exit_verify (g.I.Intake.left c.args.measure.now) (g.J.Intake.left c.args.verify.now)
-    (g.K.Intake.left c.args.write.now) (g.O.Outlet.taken c.args.out.now) s
-    c.in-Ok.measured
-    (g.I.Intake.failures c.args.measure.now) (g.I.Intake.failures c.measure_step.new.intake)
-    (g.J.Intake.failures c.args.verify.now) (g.J.Intake.failures c.verify_step.new.intake)
-    (g.K.Intake.failures c.args.write.now) (g.O.Outlet.failures c.args.out.now) c.in-Err-verify_step.fault
-    fits (known_at c.suite-suite.result s.suite (g.I.Intake.left c.args.measure.now)
-    (g.I.Intake.failures c.args.measure.now) (g.I.Intake.failures c.measure_step.new.intake)
-    (Ok c.in-Ok.measured) c.suite-suite.ensures c.in-Ok.ensures.known) c.in-Err-verify_step.ensures.known
+pub returns-in-Gcm-clause-opens : goal.returns-in-Gcm-clause-opens
+returns-in-Gcm-clause-opens g c =
+    let under = λ (k : Keyed). BeginsOpening c.gcm_keys-keys.result c.initial_state-state.result
+    (setting k c.args.nonce.now c.args.aad.now) in
+    let lent = c.gcm_keys-keys.ensures c.args.aad.now in
+    let state = subst (λ (k : Keyed). HoldsNumbers c.initial_state-state.result (setting k c.args.nonce.now c.args.aad.now) [])
+    (ap one_pass_keyed c.in-Gcm.is) c.initial_state-state.ensures in
+    let begins : under c.in-Gcm.cipher = record { keys_are = lent.0; state_is = state; bytes = λ _. lent.1 } in
+    c.open_over-in-Gcm.ensures.opens _
+    (subst under (sym (ap keyed_of c.in-OnePass.is ∙ ap one_pass_keyed c.in-Gcm.is)) begins)
 
-pub returns-in-Ok-verify_step-clause-opens : goal.returns-in-Ok-verify_step-clause-opens
-returns-in-Ok-verify_step-clause-opens g c =
-    let s : Setting = setting (keyed_of c.args.cipher.now) c.args.nonce.now
-    c.args.aad.now in
-    let fits : length s.aad ≤ aad_limit s.suite =
-    omega (arith, c.in_ok-check_aad.ensures, ap aad_limit c.suite-suite.ensures) in
-    exit_write (g.I.Intake.left c.args.measure.now) (g.J.Intake.left c.args.verify.now)
-    (g.K.Intake.left c.args.write.now)
-    (g.O.Outlet.taken c.args.out.now) (g.O.Outlet.taken c.write_step.new.outlet) s
-    c.in-Ok.measured
-    (g.I.Intake.failures c.args.measure.now) (g.I.Intake.failures c.measure_step.new.intake)
-    (g.J.Intake.failures c.args.verify.now) (g.J.Intake.failures c.verify_step.new.intake)
-    (g.K.Intake.failures c.args.write.now) (g.K.Intake.failures c.write_step.new.intake)
-    (g.O.Outlet.failures c.args.out.now) (g.O.Outlet.failures c.write_step.new.outlet) c.write_step.result
-    fits (known_at c.suite-suite.result s.suite (g.I.Intake.left c.args.measure.now)
-    (g.I.Intake.failures c.args.measure.now) (g.I.Intake.failures c.measure_step.new.intake)
-    (Ok c.in-Ok.measured) c.suite-suite.ensures c.in-Ok.ensures.known) c.in-Ok-verify_step.ensures.known
-    c.write_step.ensures.known
+pub returns-in-Siv-clause-opens : goal.returns-in-Siv-clause-opens
+returns-in-Siv-clause-opens g c =
+    let under = λ (k : Keyed). BeginsOpening c.message_keys-keys.result c.initial_state-state-in-Siv.result
+    (setting k c.args.nonce.now c.args.aad.now) in
+    let s : Setting = setting c.in-Siv.cipher c.args.nonce.now c.args.aad.now in
+    let suite = c.suite.ensures ∙ ap (λ k. (keyed_of k).suite) c.in-Siv.is in
+    let d = c.derive-derived.ensures in
+    let derived : AreDerived c.derive-derived.result s =
+    record { by = d.by; encryption_is = d.encryption; hash_key_is = (d.block, d.hash_key) } in
+    let begins : under c.in-Siv.cipher = record {
+      keys_are = c.message_keys-keys.ensures.keys s derived c.of-multiplier.ensures refl;
+      state_is = c.initial_state-state-in-Siv.ensures s derived refl
+          (omega (arith, c.in_ok-check_aad.ensures, ap aad_limit suite));
+      bytes = λ one. absurd (true≢false (sym one ∙ ap is_one_pass d.by));
+    } in
+    c.open_over-in-Siv.ensures.opens _ (subst under (sym (ap keyed_of c.in-Siv.is)) begins)

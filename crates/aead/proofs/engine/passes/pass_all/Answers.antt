@@ -3,13 +3,13 @@ use Rattle.aead.proofs.Extents.{all_short, all_more, all_stopped}
 use Rattle.aead.proofs.engine.passes.pass_all.Goals as goal
 
 pub returns-then-n-length-clause-passed : goal.returns-then-n-length-clause-passed
-returns-then-n-length-clause-passed g c = λ m h limit.
+returns-then-n-length-clause-passed g c = λ m h.
     let less : c.in-Ok.n < c.args.length = omega arith in
-    all_short _ _ _ _ _ _ _ _ _ (c.in-Ok.ensures.passed m h limit) less
+    all_short _ _ _ _ _ _ _ _ _ (c.in-Ok.ensures.passed m h) less
 
 pub returns-in-Ok-true-clause-passed : goal.returns-in-Ok-true-clause-passed
-returns-in-Ok-true-clause-passed g c = λ m h limit.
-    let q = c.in-Ok.ensures.passed m h limit in
+returns-in-Ok-true-clause-passed g c = λ m h.
+    let q = c.in-Ok.ensures.passed m h in
     let full : c.args.length ≤ c.in-Ok.n = omega arith in
     let more = c.in-Ok-true.ensures.more in
     let some = more.some c.in-Ok-true.field-0-test in
@@ -21,8 +21,8 @@ returns-in-Ok-true-clause-passed g c = λ m h limit.
     ))
 
 pub returns-in-Ok-false-clause-passed : goal.returns-in-Ok-false-clause-passed
-returns-in-Ok-false-clause-passed g c = λ m h limit.
-    let q = c.in-Ok.ensures.passed m h limit in
+returns-in-Ok-false-clause-passed g c = λ m h.
+    let q = c.in-Ok.ensures.passed m h in
     let full : c.args.length ≤ c.in-Ok.n = omega arith in
     let more = c.in-Ok-false.ensures.more in
     let none = more.none c.in-Ok-false.field-0-test in
@@ -34,5 +34,5 @@ returns-in-Ok-false-clause-passed g c = λ m h limit.
     ))
 
 pub returns-in-Err-has_more-clause-passed : goal.returns-in-Err-has_more-clause-passed
-returns-in-Err-has_more-clause-passed g c = λ m h limit.
-    all_stopped _ _ _ _ _ _ _ _ _ _ _ (c.in-Ok.ensures.passed m h limit) c.in-Err-has_more.ensures.more.1
+returns-in-Err-has_more-clause-passed g c = λ m h.
+    all_stopped _ _ _ _ _ _ _ _ _ _ _ (c.in-Ok.ensures.passed m h) c.in-Err-has_more.ensures.more.1

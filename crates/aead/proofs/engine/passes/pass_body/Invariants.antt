@@ -6,7 +6,7 @@ abbrev pub invariant-loop-done : goal.invariant-loop-done
 invariant-loop-done g l = record {
   in_range : l.done ≤ l.length;
   room : g.S.Stage.room l.initial.stage ≤ g.S.Stage.room l.stage + l.done;
-  went : (m : g.S.Stage.Message) → g.S.Stage.holds m l.initial.stage [] → l.length ≤ g.S.Stage.limit m →
+  went : (m : g.S.Stage.Message) → g.S.Stage.holds m l.initial.stage [] →
       (bytes : List ℕ) × HasPassed (g.S.Stage.holds m) (g.S.Stage.mask m) []
       (g.I.Intake.left l.initial.intake) (g.I.Intake.left l.intake)
       (g.O.Outlet.taken l.initial.outlet) (g.O.Outlet.taken l.outlet) l.stage bytes

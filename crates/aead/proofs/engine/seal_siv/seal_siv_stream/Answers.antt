@@ -1,9 +1,10 @@
-use Rattle.std.proofs.Common.{◌≡◌, ◌∙◌, ap, arith, Err}
+use Rattle.std.proofs.Common.{◌≡◌, ◌∙◌, ap, arith, refl, Err}
 use Rattle.std.proofs.lemmas.Result.{err_from_is_err_and}
 use Rattle.octets.specs.declared.fault.Fault.TheVariants.{AadTooLong}
 use Rattle.aead.specs.Suites.{aad_limit}
 use Rattle.aead.specs.Sealing.{Setting}
 use Rattle.aead.specs.Ciphers.{setting}
+use Rattle.aead.specs.Code.MessageKeys.{AreDerived}
 use Rattle.aead.proofs.SivExits.{exit_aad}
 use Rattle.aead.proofs.engine.seal_siv.seal_siv_stream.Goals as goal
 
@@ -21,3 +22,21 @@ returns-in_err-check_aad-clause-seals g c =
       outlet = g.O.Outlet.failures c.args.out.now;
     })
     (λ h. omega (arith, h, c.in_err-check_aad.ensures.1, ap aad_limit c.suite.ensures.value)))
+
+pub seal_over-requires : goal.seal_over-requires
+seal_over-requires g c =
+    let s : Setting = setting c.args.cipher.now c.args.nonce.now c.args.aad.now in
+    let d = c.derive-derived.ensures in
+    (c.initial_state-state.ensures s
+    (record { by = d.by; encryption_is = d.encryption; hash_key_is = (d.block, d.hash_key) }) refl
+    (omega (arith, c.in_ok-check_aad.ensures, ap aad_limit c.suite.ensures.value))).length_is
+
+pub returns-clause-seals : goal.returns-clause-seals
+returns-clause-seals g c =
+    let s : Setting = setting c.args.cipher.now c.args.nonce.now c.args.aad.now in
+    let d = c.derive-derived.ensures in
+    let derived : AreDerived c.derive-derived.result s =
+    record { by = d.by; encryption_is = d.encryption; hash_key_is = (d.block, d.hash_key) } in
+    c.seal_over.ensures.seals s d.by (c.message_keys-keys.ensures.keys s derived c.of-multiplier.ensures refl)
+    (c.initial_state-state.ensures s derived refl
+    (omega (arith, c.in_ok-check_aad.ensures, ap aad_limit c.suite.ensures.value)))

@@ -12,5 +12,5 @@ returns c = λ s body k fits h knows.
     let same = λ (bytes : List ℕ).
     c.order_of_opening.ensures mask bytes ∙ ap (λ (x : Construction). authenticated_by x mask bytes) (sym k.by) in
     let long = h.length_is ∙ length_authenticated (construction_of s.suite) mask body in
-    let m = c.mask.ensures s body k long fits (subst (HoldsNumbers c.args.state.now s) (sym (same body)) h) knows in
+    let m = c.mask.ensures.masks s body k long fits (subst (HoldsNumbers c.args.state.now s) (sym (same body)) h) knows in
     (subst (HoldsNumbers c.mask.new.state s) (same (body ++ c.args.piece.now)) m.0, m.1, m.2)

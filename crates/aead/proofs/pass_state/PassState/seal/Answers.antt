@@ -26,7 +26,7 @@ returns-clause-answer c = λ s text k one h knows.
     let within : length (text ++ c.args.piece.now) ≤ text_limit s.suite =
     omega (arith, length-append text c.args.piece.now, text_length c.args.self.now s text h, fits) in
     let zeros = replicate 16 0 in
-    let m = c.mask.ensures s text k (text_length c.args.self.now s text h) fits (h zeros) knows in (
+    let m = c.mask.ensures.masks s text k (text_length c.args.self.now s text h) fits (h zeros) knows in (
       any_tag _ s zeros (text ++ c.args.piece.now) one m.0,
       λ tag. m.1 ∙ ap (λ f. masked f (length text) c.args.piece.now) (same_mask s zeros tag one),
       within,

@@ -20,6 +20,6 @@ pub returns-clause-answer : goal.returns-clause-answer
 returns-clause-answer c = λ s text k n.
     let fits : c.args.self.now.pass.length + length c.args.piece.now ≤ text_limit s.suite =
     omega (arith, ap text_limit_by k.by, c.text_limit.ensures, c.has_room.ensures.fits c.if-not-has_room.false) in (
-      record { pass = c.take.ensures s text k fits n.pass; start = n.start; tag_is = n.tag_is; first_is = n.first_is },
+      record { pass = c.take.ensures.takes s text k fits n.pass; start = n.start; tag_is = n.tag_is; first_is = n.first_is },
       omega (arith, length-append text c.args.piece.now, n.pass.length_is, fits),
     )

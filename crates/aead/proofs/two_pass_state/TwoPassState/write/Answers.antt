@@ -11,7 +11,7 @@ returns-clause-answer c = λ s first text k n knows.
     omega (arith, ap text_limit_by k.by, c.text_limit.ensures, c.min-limit.ensures, room) in
     let within : length text + length c.args.piece.now ≤ length first =
     omega (arith, n.pass.length_is, n.first_is, c.min-limit.ensures, room) in
-    let m = c.mask.ensures s text k n.pass.length_is fits n.pass knows in (
+    let m = c.mask.ensures.masks s text k n.pass.length_is fits n.pass knows in (
       record {
         pass = m.0;
         start = n.start;

@@ -5,7 +5,7 @@ use Rattle.aead.proofs.engine.measure.Measured.of.Goals as goal
 
 pub returns-in-Err : goal.returns-in-Err
 returns-in-Err g c =
-    let w = c.in-Err.ensures.passed tt refl (omega (arith, c.requires)) in
+    let w = c.in-Err.ensures.passed tt refl in
     record {
       bytes = w.bytes;
       consumed = w.consumed;
@@ -14,7 +14,7 @@ returns-in-Err g c =
 
 pub returns-then-length-limit : goal.returns-then-length-limit
 returns-then-length-limit g c =
-    let q = c.in-Ok.ensures.passed tt refl (omega (arith, c.requires)) in
+    let q = c.in-Ok.ensures.passed tt refl in
     record {
       bytes = q.bytes;
       consumed = q.went.consumed;
@@ -23,7 +23,7 @@ returns-then-length-limit g c =
 
 pub returns-then-length-lt16 : goal.returns-then-length-lt16
 returns-then-length-lt16 g c =
-    let q = c.in-Ok.ensures.passed tt refl (omega (arith, c.requires)) in
+    let q = c.in-Ok.ensures.passed tt refl in
     record {
       bytes = q.bytes;
       consumed = q.went.consumed;
@@ -32,7 +32,7 @@ returns-then-length-lt16 g c =
 
 pub returns : goal.returns
 returns g c =
-    let q = c.in-Ok.ensures.passed tt refl (omega (arith, c.requires)) in (
+    let q = c.in-Ok.ensures.passed tt refl in (
       record {
         bytes = q.bytes;
         consumed = q.went.consumed;
