@@ -112,12 +112,12 @@ MasksByBytes s = (tag : List ℕ) (i : ℕ) → mask_of s tag i < 256
 -- the keys of an opening, borrowed from a cipher or its own, are those of a message
 abbrev pub OpensUnder : OpenerKeys → Setting → Type 0
 OpensUnder (OnePass k) s = AreKeysOf k s
-OpensUnder (Siv k) s = (k.suite ≡ s.suite) × HasKeys k.own s
+OpensUnder (Siv suite own) s = (suite ≡ s.suite) × HasKeys own s
 
 -- the construction that the keys of an opening are for
 abbrev pub construction_under : OpenerKeys → Construction
 construction_under (OnePass k) = construction_by k.cipher
-construction_under (Siv k) = construction_of k.suite
+construction_under (Siv suite own) = construction_of suite
 
 -- the first pass has the keys of a message and has taken in these bytes of a ciphertext under this tag
 pub record HoldsOpener (o : Opener) (s : Setting) (tag body : List ℕ) : Type 0 where

@@ -14,7 +14,6 @@ ghost use Rattle.aead.specs.declared.suite.Suite.TheVariants.{ChaCha20Poly1305};
 
 use crate::aead::Aead;
 use crate::buffered_stream::BufferedStream;
-use crate::message::Message;
 use crate::one_pass::{OnePass, open_and_restore, open_beside, open_whole, seal_whole};
 use crate::suite::Suite;
 use chacha::{
@@ -52,17 +51,6 @@ impl ChaChaPoly {
         ensures by { construction_of self.now.suite ≡ ByChaCha }
     {
         &self.key
-    }
-
-    // Returns the inputs of one message: the key and the nonce.
-    pub(crate) fn nonced<'k, 'n>(&'k self, nonce: &'n Nonce) -> NoncedChaCha<'k, 'n>
-        ensures keyed { ⟦<NoncedChaCha<'k, 'n> as Message>⟧.keyed result ≡ self.now }
-        ensures nonce { ⟦<NoncedChaCha<'k, 'n> as Message>⟧.nonce result ≡ nonce.now }
-    {
-        NoncedChaCha {
-            key: &self.key,
-            nonce,
-        }
     }
 
     // Seals a text. The first blocks of the key stream are made together, as many as `S` says.
@@ -115,7 +103,8 @@ impl ChaChaPoly {
         if body.len() <= SEVEN_BLOCKS {
             return self.open_fitting(nonce, aad, body, tag);
         }
-        open_beside(&self.nonced(nonce), aad, body, tag)
+        let key = &self.key;
+        open_beside(&NoncedChaCha { key, nonce }, aad, body, tag)
     }
 }
 
@@ -156,12 +145,12 @@ pub(crate) fn first_half(start: &[u8]) -> [u8; 32]
 
 // The inputs of one message: the key and the nonce.
 #[derive(Drop)]
-pub(crate) struct NoncedChaCha<'k, 'n> {
+struct NoncedChaCha<'k, 'n> {
     key: &'k Key32,
     nonce: &'n Nonce,
 }
 
-impl<'k, 'n> Message for NoncedChaCha<'k, 'n> {
+impl<'k, 'n> OnePass for NoncedChaCha<'k, 'n> {
     type Stream = ChaStream;
 
     type Hash = Poly;
@@ -170,18 +159,16 @@ impl<'k, 'n> Message for NoncedChaCha<'k, 'n> {
 
     ghost nonce = { λ m. m.nonce.now };
 
+    fn mask(&self) -> ChaStream {
+        ChaStream::new(self.key, self.nonce, 1)
+    }
+
     fn hash(&self) -> Poly {
         Poly::new(&one_time_key(self.key, self.nonce))
     }
 
     fn tag(&self, digest: &Block) -> Tag {
         hash_as_tag(digest)
-    }
-}
-
-impl<'k, 'n> OnePass for NoncedChaCha<'k, 'n> {
-    fn mask(&self) -> ChaStream {
-        ChaStream::new(self.key, self.nonce, 1)
     }
 
     ghost one_pass = { λ _. refl };
@@ -200,7 +187,7 @@ struct BufferedChaCha<'a> {
         → slice_index start.now i ≡ key_stream_byte key.now nonce.now 0 i },
 }
 
-impl<'a> Message for BufferedChaCha<'a> {
+impl<'a> OnePass for BufferedChaCha<'a> {
     type Stream = BufferedStream<'a>;
 
     type Hash = Poly;
@@ -209,6 +196,10 @@ impl<'a> Message for BufferedChaCha<'a> {
 
     ghost nonce = { λ m. m.nonce.now };
 
+    fn mask(&self) -> BufferedStream<'a> {
+        BufferedStream::new(self.key, self.nonce, self.start)
+    }
+
     // The one-time key is at the start of the block with counter 0 (RFC 8439, 2.6).
     fn hash(&self) -> Poly {
         Poly::new(&first_half(self.start))
@@ -216,12 +207,6 @@ impl<'a> Message for BufferedChaCha<'a> {
 
     fn tag(&self, digest: &Block) -> Tag {
         hash_as_tag(digest)
-    }
-}
-
-impl<'a> OnePass for BufferedChaCha<'a> {
-    fn mask(&self) -> BufferedStream<'a> {
-        BufferedStream::new(self.key, self.nonce, self.start)
     }
 
     ghost one_pass = { λ _. refl };
@@ -275,6 +260,7 @@ impl Aead for ChaChaPoly {
         if body.len() <= SEVEN_BLOCKS {
             return self.open_fitting(nonce, aad, body, tag);
         }
-        open_and_restore(&self.nonced(nonce), aad, body, tag)
+        let key = &self.key;
+        open_and_restore(&NoncedChaCha { key, nonce }, aad, body, tag)
     }
 }

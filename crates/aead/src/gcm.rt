@@ -1,9 +1,10 @@
 //! The cipher AES-GCM (SP 800-38D, 7), with nonces of 12 bytes.
 
 ghost use Rattle.std.specs.Prelude.{◌≡◌, ◌≢◌, ◌<◌, ◌≤◌, ◌^◌, ◌++◌, ◌∷◌, ℕ, List, [], length, MatchResult};
+ghost use Rattle.std.proofs.Common.{ap};
 ghost use Rattle.aes.specs.Cipher.{cipher, IsKey};
 ghost use Rattle.aead.specs.declared.suite.Suite.{Suite};
-ghost use Rattle.aead.specs.Suites.{construction_of, key_length, text_limit, aad_limit, ByGcm};
+ghost use Rattle.aead.specs.Suites.{construction_of, is_one_pass, key_length, text_limit, aad_limit, ByGcm};
 ghost use Rattle.aead.specs.Sealing.{Setting, Opened, hash_key, j0, tag_over};
 ghost use Rattle.aead.specs.PassStates.{IsHashKey};
 ghost use Rattle.aead.specs.Code.States.{digest_over};
@@ -12,14 +13,12 @@ ghost use Rattle.aead.specs.InPlace.{OpensInPlace};
 
 use crate::aead::Aead;
 use crate::derived_keys::joined;
-use crate::message::Message;
-use crate::nonced::Nonced;
-use crate::one_pass::{open_whole, seal_whole};
+use crate::one_pass::{OnePass, open_whole, seal_whole};
 use crate::suite::Suite;
-use aes::AesKey;
-use gf128::{GhashOrder, Keyed128, Multiply, TableMul, WideMul};
+use aes::{AesKey, CtrBe};
+use gf128::{Ghash, Keyed128, Multiply, TableMul, WideMul};
 use octets::{Block, Fault, Nonce, Tag, xored};
-use std::marker::{Model, PhantomData};
+use std::marker::Model;
 
 /// AES-GCM under a key of 16, 24 or 32 bytes (SP 800-38D). Opening in place authenticates before it
 /// changes a byte. Contracts see its suite and key.
@@ -57,23 +56,15 @@ impl Gcm {
         }
     }
 
-    // Returns the inputs of one message: the cipher, the nonce, and a multiplier by the hash key.
-    pub(crate) fn nonced<'k, 'n, M: Multiply + Copy>(
-        &'k self,
-        nonce: &'n Nonce,
-        multiplier: M,
-    ) -> Nonced<'k, 'n, GhashOrder, M>
-        requires { M.key_bytes multiplier ≡ hash_key self.now.key }
-        ensures keyed { ⟦<Nonced<'k, 'n, GhashOrder, M> as Message>⟧.keyed result ≡ self.now }
-        ensures nonce { ⟦<Nonced<'k, 'n, GhashOrder, M> as Message>⟧.nonce result ≡ nonce.now }
+    // Lends the key schedule and the multiplier.
+    #[inline(always)]
+    fn lent<'k>(&'k self) -> BorrowedGcm<'k, &'k TableMul>
+        ensures { ⟦<BorrowedGcm<'k, &'k TableMul> as Aead>⟧.keyed result ≡ self.now }
     {
-        Nonced {
+        BorrowedGcm {
             suite: self.suite,
             key: &self.key,
-            nonce,
-            encryption: &self.key,
-            multiplier,
-            rule: PhantomData,
+            multiplier: &self.multiplier,
         }
     }
 
@@ -164,23 +155,43 @@ impl<'k, M: Multiply + Copy> BorrowedGcm<'k, M> {
             multiplier,
         }
     }
+}
 
-    // Returns the inputs of one message.
+// The inputs of one message: the cipher and the nonce.
+#[derive(Drop)]
+struct NoncedGcm<'c, 'k, M: Multiply> {
+    cipher: &'c BorrowedGcm<'k, M>,
+    nonce: &'c Nonce,
+}
+
+impl<'c, 'k, M: Multiply + Copy> OnePass for NoncedGcm<'c, 'k, M> {
+    type Stream = CtrBe<'k>;
+
+    type Hash = Ghash<M>;
+
+    ghost keyed = { λ m. record { suite = m.cipher.now.suite; key = m.cipher.now.key.now } };
+
+    ghost nonce = { λ m. m.nonce.now };
+
+    // The first counter block is inc32(J0) (SP 800-38D, 7.1).
     #[inline(always)]
-    fn nonced<'n>(&self, nonce: &'n Nonce) -> Nonced<'k, 'n, GhashOrder, M>
-        ensures keyed { ⟦<Nonced<'k, 'n, GhashOrder, M> as Message>⟧.keyed result
-            ≡ ⟦<BorrowedGcm<'k, M> as Aead>⟧.keyed self.now }
-        ensures nonce { ⟦<Nonced<'k, 'n, GhashOrder, M> as Message>⟧.nonce result ≡ nonce.now }
-    {
-        Nonced {
-            suite: self.suite,
-            key: self.key,
-            nonce,
-            encryption: self.key,
-            multiplier: self.multiplier,
-            rule: PhantomData,
-        }
+    fn mask(&self) -> CtrBe<'k> {
+        CtrBe::new(self.cipher.key, &counter_block(self.nonce, 2))
     }
+
+    #[inline(always)]
+    fn hash(&self) -> Ghash<M> {
+        Ghash::with(self.cipher.multiplier)
+    }
+
+    #[inline(always)]
+    fn tag(&self, digest: &Block) -> Tag {
+        let key = self.cipher.key;
+        let mask = key.encrypt_in_registers(&counter_block(self.nonce, 1));
+        masked_tag(&mask, digest)
+    }
+
+    ghost one_pass = { λ m. ap is_one_pass m.cipher.now.by_gcm };
 }
 
 impl<'k, M: Multiply + Copy> Aead for BorrowedGcm<'k, M> {
@@ -191,7 +202,8 @@ impl<'k, M: Multiply + Copy> Aead for BorrowedGcm<'k, M> {
     }
 
     fn seal_fitting(&self, nonce: &Nonce, aad: &[u8], text: &mut [u8]) -> Tag {
-        seal_whole(&self.nonced(nonce), aad, text)
+        let cipher = self;
+        seal_whole(&NoncedGcm { cipher, nonce }, aad, text)
     }
 
     fn open_fitting(
@@ -201,7 +213,8 @@ impl<'k, M: Multiply + Copy> Aead for BorrowedGcm<'k, M> {
         body: &mut [u8],
         tag: &Tag,
     ) -> Result<(), Fault> {
-        open_whole(&self.nonced(nonce), aad, body, tag)
+        let cipher = self;
+        open_whole(&NoncedGcm { cipher, nonce }, aad, body, tag)
     }
 }
 
@@ -216,7 +229,7 @@ impl Aead for Gcm {
     }
 
     fn seal_fitting(&self, nonce: &Nonce, aad: &[u8], text: &mut [u8]) -> Tag {
-        seal_whole(&self.nonced(nonce, &self.multiplier), aad, text)
+        self.lent().seal_fitting(nonce, aad, text)
     }
 
     fn open_fitting(
@@ -226,6 +239,6 @@ impl Aead for Gcm {
         body: &mut [u8],
         tag: &Tag,
     ) -> Result<(), Fault> {
-        open_whole(&self.nonced(nonce, &self.multiplier), aad, body, tag)
+        self.lent().open_fitting(nonce, aad, body, tag)
     }
 }

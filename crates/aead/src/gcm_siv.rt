@@ -17,15 +17,15 @@ ghost use Rattle.aead.specs.InPlace.{OpensInPlace};
 ghost use Rattle.aead.specs.Code.States.{MadeByCounter, digest_over};
 
 use crate::aead::Aead;
+use crate::authenticator::Authenticator;
 use crate::derived_keys::{DerivedKeys, joined};
-use crate::message::Message;
-use crate::nonced::Nonced;
+use crate::mask::MaskStream;
+use crate::step::step;
 use crate::suite::Suite;
-use crate::two_pass::{open_whole, seal_whole};
 use aes::{AesKey, CtrLe};
-use gf128::{Keyed128, Multiply, PolyvalOrder, TableMul};
-use octets::{Block, Fault, Nonce, Tag, xor_into};
-use std::marker::{Model, PhantomData};
+use gf128::{Keyed128, Polyval, TableMul};
+use octets::{Block, Fault, Nonce, Order, Tag, same, xor_into};
+use std::marker::Model;
 
 /// AES-GCM-SIV under a key of 16 or 32 bytes (RFC 8452). Opening in place decrypts before it can
 /// authenticate, and encrypts again after `TagMismatch`. Contracts see its suite and key.
@@ -70,31 +70,6 @@ impl GcmSiv {
         ensures by { construction_of self.now.suite ≡ ByGcmSiv }
     {
         DerivedKeys::new(self.suite, &self.key, nonce)
-    }
-
-    // Returns the inputs of one message: the cipher, the nonce, the message's encryption key, and a multiplier by its
-    // authentication key.
-    pub(crate) fn nonced<'k, 'n, M: Multiply + Copy>(
-        &'k self,
-        nonce: &'n Nonce,
-        encryption: &'k AesKey,
-        multiplier: M,
-    ) -> Nonced<'k, 'n, PolyvalOrder, M>
-        requires encryption { encryption.now ≡ encryption_key self.now.key nonce.now }
-        requires block { IsBlock (authentication_key self.now.key nonce.now) }
-        requires multiplier { IsReversedMulX (authentication_key self.now.key nonce.now)
-            (M.key_bytes multiplier) }
-        ensures keyed { ⟦<Nonced<'k, 'n, PolyvalOrder, M> as Message>⟧.keyed result ≡ self.now }
-        ensures nonce { ⟦<Nonced<'k, 'n, PolyvalOrder, M> as Message>⟧.nonce result ≡ nonce.now }
-    {
-        Nonced {
-            suite: self.suite,
-            key: &self.key,
-            nonce,
-            encryption,
-            multiplier,
-            rule: PhantomData,
-        }
     }
 }
 
@@ -159,11 +134,13 @@ impl Aead for GcmSiv {
 
     fn seal_fitting(&self, nonce: &Nonce, aad: &[u8], text: &mut [u8]) -> Tag {
         let keys = self.derive(nonce);
-        seal_whole(
-            &self.nonced(nonce, &keys.encryption, &TableMul::of(&keys.hash_key)),
-            aad,
-            text,
-        )
+        let multiplier = TableMul::of(&keys.hash_key);
+        let mut authenticator = Authenticator::empty(Polyval::with(&multiplier));
+        authenticator.begin(aad);
+        authenticator.update(text);
+        let tag = encrypted_tag(&keys.encryption, nonce, &authenticator.digest());
+        tag_mask(&keys.encryption, &tag).apply_to(text);
+        tag
     }
 
     fn open_fitting(
@@ -174,11 +151,17 @@ impl Aead for GcmSiv {
         tag: &Tag,
     ) -> Result<(), Fault> {
         let keys = self.derive(nonce);
-        open_whole(
-            &self.nonced(nonce, &keys.encryption, &TableMul::of(&keys.hash_key)),
-            aad,
-            body,
-            tag,
-        )
+        let multiplier = TableMul::of(&keys.hash_key);
+        let given = tag.bytes();
+        let mut mask = tag_mask(&keys.encryption, tag);
+        let mut authenticator = Authenticator::empty(Polyval::with(&multiplier));
+        authenticator.begin(aad);
+        step(Order::MaskFirst, &mut mask, &mut authenticator, body);
+        let found = encrypted_tag(&keys.encryption, nonce, &authenticator.digest());
+        if same(found.bytes(), given) {
+            return Ok(());
+        }
+        tag_mask(&keys.encryption, tag).apply_to(body);
+        Err(Fault::TagMismatch)
     }
 }

@@ -3,25 +3,43 @@
 ghost use Rattle.std.specs.Prelude.{◌≡◌, ◌<◌, ◌≤◌, ◌++◌, ℕ, List, [], true, get_or, length, MatchResult};
 ghost use Rattle.aead.specs.Suites.{construction_of, is_one_pass, text_limit, aad_limit};
 ghost use Rattle.octets.specs.Masked.{masked};
-ghost use Rattle.aead.specs.Sealing.{Opened, mask_of};
-ghost use Rattle.aead.specs.Ciphers.{setting};
+ghost use Rattle.aead.specs.Sealing.{Opened, mask_of, tag_over};
+ghost use Rattle.aead.specs.Ciphers.{Keyed, setting};
 ghost use Rattle.aead.specs.Refusals.{OpenRefused};
 ghost use Rattle.aead.specs.InPlace.{OpensInPlace};
+ghost use Rattle.aead.specs.Code.States.{digest_over};
 
 use crate::authenticator::Authenticator;
+use crate::hashes::TagHash;
 use crate::mask::MaskStream;
-use crate::message::Message;
 use crate::step::step;
-use octets::{Fault, Order, Tag, same};
+use octets::{Block, Fault, Order, Tag, same};
 
-// A message whose mask does not depend on the tag.
-pub(crate) trait OnePass: Message {
+// A message under a cipher and a nonce: it gives the mask and the hash of what is authenticated, and makes the tag of the hash. The
+// mask does not depend on the tag.
+pub(crate) trait OnePass {
+    type Stream: MaskStream;
+
+    type Hash: TagHash;
+
+    ghost keyed: { Self → Keyed };
+
+    ghost nonce: { Self → List ℕ };
+
     // Returns the mask.
     fn mask(&self) -> Self::Stream
-        ensures { (aad tag : List ℕ)
-            → Self.Stream.made result (setting (Self.keyed self.now) (Self.nonce self.now) aad) tag 0 };
+        ensures { (aad tag : List ℕ) → Self.Stream.made result (setting (keyed self.now) (nonce self.now) aad) tag 0 };
 
-    ghost one_pass: { (n : Self) → is_one_pass (construction_of (Self.keyed n).suite) ≡ true };
+    // Returns the hash, before any byte is taken in.
+    fn hash(&self) -> Self::Hash
+        ensures { (aad : List ℕ) → Self.Hash.held result (setting (keyed self.now) (nonce self.now) aad) [] };
+
+    // Returns the tag, from the hash of what is authenticated.
+    fn tag(&self, digest: &Block) -> Tag
+        ensures { (aad m : List ℕ) → let s = setting (keyed self.now) (nonce self.now) aad in
+            digest.now ≡ digest_over s m → result ≡ tag_over s.suite s.key s.nonce s.aad m };
+
+    ghost one_pass: { (n : Self) → is_one_pass (construction_of (keyed n).suite) ≡ true };
 }
 
 // Does nothing when it runs. It tells the proof of its caller that each byte of a slice is below 256.

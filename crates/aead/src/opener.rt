@@ -23,18 +23,11 @@ use crate::two_pass_state::TwoPassState;
 use aes::KnownBlock;
 use octets::{Fault, Nonce, Tag};
 
-// The encryption key of a message of AES-GCM-SIV, with its suite and nonce.
-#[derive(Drop, Clone, Copy)]
-pub(crate) struct OwnKey {
-    suite: Suite,
-    own: KeyAndNonce,
-}
-
 // The keys of a message that is opened: a cipher lends them, or they are the message's own.
 #[derive(Drop, Clone, Copy)]
 pub(crate) enum OpenerKeys<'a> {
     OnePass(MessageKeys<'a>),
-    Siv(OwnKey),
+    Siv(Suite, KeyAndNonce),
 }
 
 impl<'a> OpenerKeys<'a> {
@@ -45,7 +38,7 @@ impl<'a> OpenerKeys<'a> {
     {
         match self {
             OpenerKeys::OnePass(keys) => *keys,
-            OpenerKeys::Siv(key) => key.own.keys(key.suite),
+            OpenerKeys::Siv(suite, own) => own.keys(*suite),
         }
     }
 }
@@ -67,7 +60,7 @@ fn keys_and_state<'a>(cipher: &'a AnyAead, nonce: &Nonce, aad: &[u8]) -> (Opener
             let mut own = KeyAndNonce::zeros();
             let mut state = PassState::zeros();
             own.begin_siv(&mut state, suite, cipher.key(), nonce, aad);
-            (OpenerKeys::Siv(OwnKey { suite, own }), state)
+            (OpenerKeys::Siv(suite, own), state)
         }
     }
 }

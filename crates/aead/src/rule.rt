@@ -1,13 +1,12 @@
 //! What AES-GCM (SP 800-38D, 7) and AES-GCM-SIV (RFC 8452, 4) do not share: the order in which the hash reads the bytes of a block, how
-//! counter blocks count and with which the mask begins, the block of both lengths, and how the tag is made of the hash.
+//! counter blocks count and with which the mask begins, and the block of both lengths.
 
 ghost use Rattle.std.specs.Prelude.{◌≡◌, ◌<◌, ◌*◌, ◌^◌, ◌++◌, ℕ, List, length, take};
 ghost use Rattle.octets.specs.Bytes.{pad16};
 ghost use Rattle.gf128.specs.Orders.{Serves, hash_by};
 ghost use Rattle.gf128.specs.Code.States.{IsSum};
 ghost use Rattle.aead.specs.Suites.{construction_of};
-ghost use Rattle.aead.specs.Sealing.{Setting, Fits, tag_over};
-ghost use Rattle.aead.specs.KeyedPasses.{cipher_key};
+ghost use Rattle.aead.specs.Sealing.{Setting, Fits};
 ghost use Rattle.aead.specs.PassStates.{IsHashKey, IsSumOf};
 ghost use Rattle.aead.specs.Code.States.{block_key, first_counter, digest_over};
 ghost use Rattle.aead.specs.Code.Rules.{gcm_serves, gcm_sums, gcm_is_sum, siv_serves, siv_sums, siv_is_sum};
@@ -15,9 +14,9 @@ ghost use Rattle.aead.specs.Code.Rules.{gcm_serves, gcm_sums, gcm_is_sum, siv_se
 use crate::derived_keys::joined;
 use crate::mask::MaskCount;
 use crate::{gcm, gcm_siv};
-use aes::{AesKey, FirstFour, LastFour};
+use aes::{FirstFour, LastFour};
 use gf128::{GhashOrder, HashOrder, PolyvalOrder};
-use octets::{Block, Nonce, Tag, be_pair};
+use octets::{Block, Nonce, be_pair};
 
 // What the two constructions with AES do not share.
 pub(crate) trait Rule: HashOrder {
@@ -34,12 +33,6 @@ pub(crate) trait Rule: HashOrder {
         ensures value { (s : Setting) (m : List ℕ) → construction_of s.suite ≡ Self.Count.by → Fits s m
             → aad_length ≡ length s.aad → bytes_length ≡ length m
             → hash_by Self.order (block_key Self.Count.by s) (pad16 (pad16 s.aad ++ m) ++ result) ≡ digest_over s m };
-
-    // Returns the tag of a message from its hash, by the key that its text is encrypted with.
-    fn tag(encryption: &AesKey, nonce: &Nonce, digest: &Block) -> Tag
-        ensures { (s : Setting) (m : List ℕ) → construction_of s.suite ≡ Self.Count.by
-            → encryption.now ≡ cipher_key Self.Count.by s → nonce.now ≡ s.nonce → digest.now ≡ digest_over s m
-            → result ≡ tag_over s.suite s.key s.nonce s.aad m };
 
     // The hash key that a state holds begins with a key of the multiplier.
     ghost serves: { (s : Setting) (k : List ℕ) → IsHashKey Self.Count.by k s
@@ -73,12 +66,6 @@ impl Rule for GhashOrder {
         be_pair(bits(aad_length), bits(bytes_length))
     }
 
-    #[inline(always)]
-    fn tag(encryption: &AesKey, nonce: &Nonce, digest: &Block) -> Tag {
-        let mask = encryption.encrypt_in_registers(&gcm::counter_block(nonce, 1));
-        gcm::masked_tag(&mask, digest)
-    }
-
     ghost serves = { gcm_serves };
 
     ghost sums = { gcm_sums };
@@ -100,11 +87,6 @@ impl Rule for PolyvalOrder {
             &bits(aad_length).to_le_bytes(),
             &bits(bytes_length).to_le_bytes(),
         )
-    }
-
-    #[inline(always)]
-    fn tag(encryption: &AesKey, nonce: &Nonce, digest: &Block) -> Tag {
-        gcm_siv::encrypted_tag(encryption, nonce, digest)
     }
 
     ghost serves = { siv_serves };

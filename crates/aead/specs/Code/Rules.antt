@@ -1,6 +1,6 @@
 -- Facts on which the rules of AES-GCM and AES-GCM-SIV rest.
 use mathlib.Core.Logic.{∥∥₁_elim}
-use Rattle.std.specs.Prelude.{◌≡◌, ℕ, List, take}
+use Rattle.std.specs.Prelude.{ℕ, List, take}
 use Rattle.std.proofs.Common.{refl}
 use Rattle.std.proofs.Props.{props}
 use Rattle.gf128.specs.Orders.{Straight, Reversed, Serves}

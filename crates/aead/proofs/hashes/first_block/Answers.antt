@@ -1,5 +1,4 @@
-use Rattle.std.proofs.Common.{◌∙◌, arith, take}
-use Rattle.std.proofs.lemmas.List.{take_all, length-take}
+use Rattle.std.proofs.Common.{◌∙◌}
 use Rattle.aead.proofs.hashes.first_block.Goals as goal
 
 pub returns : goal.returns

@@ -7,7 +7,7 @@ use Rattle.aead.proofs.one_pass.open_and_restore.Goals as goal
 
 pub returns-in-Err : goal.returns-in-Err
 returns-in-Err g c =
-    let s : Setting = setting (g.N.Message.keyed c.args.message.now) (g.N.Message.nonce c.args.message.now)
+    let s : Setting = setting (g.N.OnePass.keyed c.args.message.now) (g.N.OnePass.nonce c.args.message.now)
     c.args.aad.now in
     let tag = c.args.tag.now in
     let body = c.args.body.now in

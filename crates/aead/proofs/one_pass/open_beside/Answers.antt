@@ -6,7 +6,7 @@ use Rattle.aead.proofs.one_pass.open_beside.Goals as goal
 
 pub returns-then-same-clause-opened : goal.returns-then-same-clause-opened
 returns-then-same-clause-opened g c =
-    let s : Setting = setting (g.N.Message.keyed c.args.message.now) (g.N.Message.nonce c.args.message.now)
+    let s : Setting = setting (g.N.OnePass.keyed c.args.message.now) (g.N.OnePass.nonce c.args.message.now)
     c.args.aad.now in
     let fits : Fits s c.args.body.now =
     record { aad_fits = c.requires.aad_fits; text_fits = c.requires.text_fits } in
@@ -21,7 +21,7 @@ returns-then-same-clause-opened g c =
 
 pub returns-clause-opened : goal.returns-clause-opened
 returns-clause-opened g c =
-    let s : Setting = setting (g.N.Message.keyed c.args.message.now) (g.N.Message.nonce c.args.message.now)
+    let s : Setting = setting (g.N.OnePass.keyed c.args.message.now) (g.N.OnePass.nonce c.args.message.now)
     c.args.aad.now in
     let mask = c.mask-mask.ensures c.args.aad.now c.args.tag.now in
     let hash = rw (sym c.empty-authenticator.ensures.0) at (c.hash.ensures c.args.aad.now) in
@@ -42,7 +42,7 @@ returns-clause-opened g c =
 
 pub returns-then-same-clause-masked : goal.returns-then-same-clause-masked
 returns-then-same-clause-masked g c =
-    let s : Setting = setting (g.N.Message.keyed c.args.message.now) (g.N.Message.nonce c.args.message.now)
+    let s : Setting = setting (g.N.OnePass.keyed c.args.message.now) (g.N.OnePass.nonce c.args.message.now)
     c.args.aad.now in
     let mask = c.mask-mask.ensures c.args.aad.now c.args.tag.now in
     let hash = rw (sym c.empty-authenticator.ensures.0) at (c.hash.ensures c.args.aad.now) in
@@ -51,7 +51,7 @@ returns-then-same-clause-masked g c =
 
 pub returns-clause-masked : goal.returns-clause-masked
 returns-clause-masked g c =
-    let s : Setting = setting (g.N.Message.keyed c.args.message.now) (g.N.Message.nonce c.args.message.now)
+    let s : Setting = setting (g.N.OnePass.keyed c.args.message.now) (g.N.OnePass.nonce c.args.message.now)
     c.args.aad.now in
     let mask = c.mask-mask.ensures c.args.aad.now c.args.tag.now in
     let hash = rw (sym c.empty-authenticator.ensures.0) at (c.hash.ensures c.args.aad.now) in

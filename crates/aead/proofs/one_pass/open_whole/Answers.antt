@@ -6,7 +6,7 @@ use Rattle.aead.proofs.one_pass.open_whole.Goals as goal
 
 pub returns-then-not-same : goal.returns-then-not-same
 returns-then-not-same g c =
-    let s : Setting = setting (g.N.Message.keyed c.args.message.now) (g.N.Message.nonce c.args.message.now)
+    let s : Setting = setting (g.N.OnePass.keyed c.args.message.now) (g.N.OnePass.nonce c.args.message.now)
     c.args.aad.now in
     let hash = rw (sym c.empty-authenticator.ensures.0) at (c.hash.ensures c.args.aad.now) in
     let begun = c.begin.ensures.holds s refl c.requires.aad_fits hash in
@@ -28,7 +28,7 @@ returns-then-not-same g c =
 
 pub returns : goal.returns
 returns g c =
-    let s : Setting = setting (g.N.Message.keyed c.args.message.now) (g.N.Message.nonce c.args.message.now)
+    let s : Setting = setting (g.N.OnePass.keyed c.args.message.now) (g.N.OnePass.nonce c.args.message.now)
     c.args.aad.now in
     let fits : Fits s c.args.body.now =
     record { aad_fits = c.requires.aad_fits; text_fits = c.requires.text_fits } in

@@ -9,7 +9,7 @@ use Rattle.aead.proofs.one_pass.seal_whole.Goals as goal
 
 pub returns : goal.returns
 returns g c =
-    let s : Setting = setting (g.N.Message.keyed c.args.message.now) (g.N.Message.nonce c.args.message.now)
+    let s : Setting = setting (g.N.OnePass.keyed c.args.message.now) (g.N.OnePass.nonce c.args.message.now)
     c.args.aad.now in
     let fits : Fits s c.args.text.now =
     record { aad_fits = c.requires.aad_fits; text_fits = c.requires.text_fits } in

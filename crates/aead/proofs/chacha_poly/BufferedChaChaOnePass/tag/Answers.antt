@@ -1,7 +1,7 @@
 use Rattle.std.proofs.Common.{refl}
 use Rattle.aead.specs.Ciphers.{setting}
 use Rattle.aead.specs.declared.suite.Suite.TheVariants.{ChaCha20Poly1305}
-use Rattle.aead.proofs.chacha_poly.NoncedChaChaMessage.tag.Goals as goal
+use Rattle.aead.proofs.chacha_poly.BufferedChaChaOnePass.tag.Goals as goal
 
 pub returns : goal.returns
 returns c = λ aad m digest.

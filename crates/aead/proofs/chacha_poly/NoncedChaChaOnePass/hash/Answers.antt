@@ -1,6 +1,6 @@
 use Rattle.std.proofs.Common.{ℕ, List, [], refl, subst}
 use Rattle.poly1305.specs.Code.States.{Holds}
-use Rattle.aead.proofs.chacha_poly.NoncedChaChaMessage.hash.Goals as goal
+use Rattle.aead.proofs.chacha_poly.NoncedChaChaOnePass.hash.Goals as goal
 
 pub returns : goal.returns
 returns c = λ aad.
