@@ -26,6 +26,5 @@ mod SivExits
 mod Parts
 mod ByteMasks
 mod PassStates
-mod Resumption
 mod KeyedPasses
 mod TakenIn

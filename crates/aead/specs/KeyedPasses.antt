@@ -4,14 +4,14 @@ use Rattle.octets.specs.Masked.{masked}
 use Rattle.aes.specs.declared.counter.KnownBlock.{KnownBlock}
 use Rattle.aes.specs.Code.Streams.{KnowsCipher}
 use Rattle.octets.specs.declared.fault.Fault.{Fault}
-use Rattle.octets.specs.declared.fault.Fault.TheVariants.{KeyLength, NonceLength, AadTooLong, TagMismatch}
+use Rattle.octets.specs.declared.fault.Fault.TheVariants.{KeyLength, NonceLength, AadTooLong}
 use Rattle.octets.specs.Refusals.{◌unless◌, FirstOf}
 use Rattle.aead.specs.declared.suite.Suite.{Suite}
 use Rattle.aead.specs.declared.key_and_nonce.KeyAndNonce.{KeyAndNonce}
 use Rattle.aead.specs.declared.pass_state.PassState.{PassState}
 use Rattle.aead.specs.Suites.{Construction, ByChaCha, ByGcm, ByGcmSiv, construction_of, key_length, aad_limit}
 use Rattle.aead.specs.Sealing.{Setting, encryption_key}
-use Rattle.aead.specs.PassStates.{HoldsNumbers, HoldsSome}
+use Rattle.aead.specs.PassStates.{HoldsNumbers}
 
 -- the setting of a message, from a suite and the bytes that the caller hands in
 abbrev pub setting_of : Suite → (key nonce aad : List ℕ) → Setting
@@ -26,11 +26,6 @@ pub record HasLengths (s : Setting) : Type 0 where
 abbrev pub BeginRefused : Setting → Fault → Type 0
 BeginRefused s = FirstOf (KeyLength unless (length s.key ≡ key_length s.suite)
     ∷ NonceLength unless (length s.nonce ≡ 12) ∷ AadTooLong unless (length s.aad ≤ aad_limit s.suite) ∷ [])
-
--- why stored numbers are not resumed
-abbrev pub ResumeRefused : PassState → Suite → (key nonce : List ℕ) → Fault → Type 0
-ResumeRefused n suite key nonce = FirstOf (KeyLength unless (length key ≡ key_length suite)
-    ∷ NonceLength unless (length nonce ≡ 12) ∷ TagMismatch unless HoldsSome n (setting_of suite key nonce) ∷ [])
 
 -- the key that the cipher of a message uses: for AES-GCM-SIV it is the derived message-encryption key
 abbrev pub cipher_key : Construction → Setting → List ℕ

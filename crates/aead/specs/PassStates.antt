@@ -37,18 +37,6 @@ pub record HoldsNumbers (n : PassState) (s : Setting) (bytes : List ℕ) : Type 
   pub length_is : n.length ≡ length bytes
   pub fits : Fits s bytes
 
--- the numbers are the state of one of these messages, with some associated data and some bytes
-abbrev pub HoldsSome : PassState → (under : List ℕ → Setting) → Type 0
-HoldsSome n under = (aad bytes : List ℕ) × HoldsNumbers n (under aad) bytes
-
--- the numbers are not the state of any of these messages, whatever their associated data and bytes
-abbrev pub HoldsNone : PassState → (under : List ℕ → Setting) → Type 0
-HoldsNone n under = ¬ HoldsSome n under
-
--- the numbers contain the hash key of these messages, whatever the associated data
-abbrev pub HasHashKey : PassState → (under : List ℕ → Setting) → Type 0
-HasHashKey n under = (aad : List ℕ) → IsHashKey (construction_of (under aad).suite) n.hash_key (under aad)
-
 -- the numbers are the state after this text in a suite of one reading: the state of its ciphertext, whose mask does not depend
 -- on the tag
 abbrev pub HoldsState : PassState → Setting → List ℕ → Type 0

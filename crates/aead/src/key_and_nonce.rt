@@ -7,8 +7,7 @@ ghost use Rattle.aes.specs.Cipher.{IsKey};
 ghost use Rattle.gf128.specs.Orders.{Reversed, Serves};
 ghost use Rattle.aead.specs.Suites.{ByChaCha, ByGcm, ByGcmSiv, construction_of, key_length, aad_limit};
 ghost use Rattle.aead.specs.Sealing.{Setting, hash_key, authentication_key, encryption_key};
-ghost use Rattle.aead.specs.PassStates.{HasHashKey};
-ghost use Rattle.aead.specs.KeyedPasses.{setting_of, BeginRefused, ResumeRefused};
+ghost use Rattle.aead.specs.KeyedPasses.{setting_of, BeginRefused};
 ghost use Rattle.aead.specs.Pieces.{MasksByBytes};
 ghost use Rattle.aead.specs.Code.MessageKeys.{construction_by, AreKeysOf};
 
@@ -325,34 +324,5 @@ impl KeyAndNonce {
         suite.check_aad(aad)?;
         self.begin_gcm(state, suite, key, cipher, ghash_key, &nonce, aad);
         Ok(())
-    }
-
-    /// Returns the key and the nonce of a message, to go on from a saved `state` of it. `KeyLength` if the key does not have the
-    /// suite's length, then `NonceLength` if the nonce is not 12 bytes long, then `TagMismatch` if the state belongs to another key
-    /// or nonce.
-    ///
-    /// The saved state of a sealing must be resumed only once: otherwise two texts that begin alike are sealed under one nonce.
-    pub fn resumed(
-        suite: Suite,
-        key: &[u8],
-        nonce: &[u8],
-        state: &PassState,
-    ) -> Result<KeyAndNonce, Fault>
-        ensures answer { MatchResult result
-            (λ p. (aad : List ℕ) → HasKeys p (setting_of suite key.now nonce.now aad))
-            (ResumeRefused state.now suite key.now nonce.now) }
-        ensures key { IfOk result (λ _. HasHashKey state.now (setting_of suite key.now nonce.now)) }
-        ensures bytes { IfOk result (λ _. (aad : List ℕ) → MasksByBytes (setting_of suite key.now nonce.now aad)) }
-    {
-        let mut keys = KeyAndNonce::zeros();
-        let mut fresh = PassState::zeros();
-        match keys.begin(&mut fresh, suite, key, nonce, &[]) {
-            Ok(()) => {}
-            Err(fault) => return Err(fault),
-        }
-        if !state.has_hash_key_of(&fresh) {
-            return Err(Fault::TagMismatch);
-        }
-        Ok(keys)
     }
 }

@@ -1,16 +1,16 @@
 //! Opening piece by piece in two passes, under any suite. The first pass over the ciphertext returns no text; only if it was over
 //! a valid sealing does a second pass decrypt.
 
-ghost use Rattle.std.specs.Prelude.{◌≡◌, ◌<◌, ◌≤◌, ◌++◌, ℕ, List, [], length, MatchResult, IfOk, OnErr};
+ghost use Rattle.std.specs.Prelude.{◌≡◌, ◌<◌, ◌≤◌, ◌++◌, ℕ, List, [], length, MatchResult, OnErr};
 ghost use Rattle.octets.specs.Masked.{masked};
 ghost use Rattle.aead.specs.Suites.{text_limit, aad_limit};
 ghost use Rattle.aead.specs.Sealing.{Setting, IsNoSealing, mask_of};
 ghost use Rattle.aead.specs.Ciphers.{setting};
 ghost use Rattle.aead.specs.AnyCiphers.{keyed_of};
 ghost use Rattle.aead.specs.Refusals.{FitsIn, SealRefused};
-ghost use Rattle.aead.specs.PassStates.{HasHashKey, HoldsNone, HoldsNumbers};
+ghost use Rattle.aead.specs.PassStates.{HoldsNumbers};
 ghost use Rattle.aead.specs.Code.MessageKeys.{construction_by, AreKeysOf};
-ghost use Rattle.aead.specs.Pieces.{Opens, WasOverASealing, IsInFirstPass, IsInSecondPass, MasksByBytes, OpensUnder};
+ghost use Rattle.aead.specs.Pieces.{Opens, WasOverASealing, MasksByBytes, OpensUnder};
 ghost use Rattle.aead.specs.Pieces.{construction_under};
 
 use crate::aead::Aead;
@@ -65,28 +65,6 @@ fn keys_and_state<'a>(cipher: &'a AnyAead, nonce: &Nonce, aad: &[u8]) -> (Opener
     }
 }
 
-// The keys of the message with this nonce, to go on from a saved state. `TagMismatch` if the state belongs to another key or
-// nonce.
-fn keys_for_state<'a>(
-    cipher: &'a AnyAead,
-    nonce: &Nonce,
-    state: &TwoPassState,
-) -> Result<OpenerKeys<'a>, Fault>
-    ensures answer { MatchResult result
-        (λ keys. (aad : List ℕ) → let s = setting (keyed_of cipher.now) nonce.now aad in
-        OpensUnder keys s × MasksByBytes s)
-        (λ e. (e ≡ Fault.TagMismatch)
-        × HoldsNone state.now.pass (setting (keyed_of cipher.now) nonce.now)) }
-    ensures key { IfOk result (λ _. HasHashKey state.now.pass (setting (keyed_of cipher.now) nonce.now)) }
-{
-    let (keys, fresh) = keys_and_state(cipher, nonce, &[]);
-    if state.pass.has_hash_key_of(&fresh) {
-        Ok(keys)
-    } else {
-        Err(Fault::TagMismatch)
-    }
-}
-
 /// The first pass over a ciphertext that is opened under the tag of its sealing.
 #[derive(Drop)]
 pub struct Opener<'a> {
@@ -112,37 +90,6 @@ impl<'a> Opener<'a> {
         let (keys, pass) = keys_and_state(cipher, nonce, aad);
         let state = TwoPassState::first_pass(pass, tag.bytes());
         Ok(Opener { keys, state })
-    }
-
-    /// Goes on from a saved `state`, which [`Opener::state`] returned under the same cipher and nonce. `TagMismatch` if the state
-    /// belongs to another key or nonce.
-    pub fn resumed(
-        cipher: &'a AnyAead,
-        nonce: &Nonce,
-        state: &TwoPassState,
-    ) -> Result<Opener<'a>, Fault>
-        ensures answer { MatchResult result
-            (λ opener. (aad tag body : List ℕ) → let s = setting (keyed_of cipher.now) nonce.now aad in
-            IsInFirstPass state.now s tag body → HoldsOpener opener s tag body)
-            (λ e. (e ≡ Fault.TagMismatch)
-            × HoldsNone state.now.pass (setting (keyed_of cipher.now) nonce.now)) }
-        ensures key { IfOk result (λ _. HasHashKey state.now.pass (setting (keyed_of cipher.now) nonce.now)) }
-    {
-        match keys_for_state(cipher, nonce, state) {
-            Ok(keys) => Ok(Opener {
-                keys,
-                state: *state,
-            }),
-            Err(fault) => Err(fault),
-        }
-    }
-
-    /// Returns the state as plain numbers, for [`Opener::resumed`]: they hold the tag.
-    pub fn state(&self) -> TwoPassState
-        ensures { (s : Setting) (tag body : List ℕ) → HoldsOpener self.now s tag body
-            → IsInFirstPass result s tag body }
-    {
-        self.state
     }
 
     /// Authenticates a piece of the ciphertext, of any length. `TextTooLong` if the ciphertext would be longer than the suite's
@@ -188,40 +135,6 @@ pub struct OpenWriter<'a> {
 
 impl<'a> OpenWriter<'a> {
     ghost use Rattle.aead.specs.Pieces.{HoldsOpenWriter, open_writer_count, open_writer_limit};
-
-    /// Goes on from a saved `state`, which [`OpenWriter::state`] returned under the same cipher and nonce. `TagMismatch` if the
-    /// state belongs to another key or nonce.
-    pub fn resumed(
-        cipher: &'a AnyAead,
-        nonce: &Nonce,
-        state: &TwoPassState,
-    ) -> Result<OpenWriter<'a>, Fault>
-        ensures answer { MatchResult result
-            (λ writer. (aad tag : List ℕ) (first : ℕ) (body : List ℕ)
-            → let s = setting (keyed_of cipher.now) nonce.now aad in
-            IsInSecondPass state.now s tag first body → HoldsOpenWriter writer s tag first body)
-            (λ e. (e ≡ Fault.TagMismatch)
-            × HoldsNone state.now.pass (setting (keyed_of cipher.now) nonce.now)) }
-        ensures key { IfOk result (λ _. HasHashKey state.now.pass (setting (keyed_of cipher.now) nonce.now)) }
-    {
-        match keys_for_state(cipher, nonce, state) {
-            Ok(keys) => Ok(OpenWriter {
-                keys,
-                state: *state,
-                known: KnownBlock::none(),
-            }),
-            Err(fault) => Err(fault),
-        }
-    }
-
-    /// Returns the state as plain numbers, for [`OpenWriter::resumed`]: they hold the tag and the length of the first pass.
-    pub fn state(&self) -> TwoPassState
-        ensures { (s : Setting) (tag : List ℕ) (first : ℕ) (body : List ℕ) → HoldsOpenWriter self.now s tag first body
-            → IsInSecondPass result s tag first body }
-    {
-        let OpenWriter { state, .. } = self;
-        *state
-    }
 
     /// Replaces a piece of the ciphertext, of any length, with its text. `SourceChanged` if the second pass would be longer than the
     /// first: the state and the piece do not change then.

@@ -1,5 +1,5 @@
 //! The state of a pass over a message as plain numbers: the sum of its hash, the bytes after the last whole block, and both
-//! lengths. It is what a caller saves, and what a caller in C has in its own memory.
+//! lengths. A caller in C has it in its own memory.
 
 ghost use Rattle.std.specs.Prelude.{◌≡◌, ◌↔◌, ◌+◌, ◌*◌, ◌<◌, ◌≤◌, ◌^◌, ◌++◌, ℕ, List, [], length, take, drop, true, false};
 ghost use Rattle.std.specs.Prelude.{MatchResult, OnErr};
@@ -21,15 +21,6 @@ use octets::{Block, Fault, Order, Tag};
 
 // 2^64.
 const WORD: u128 = 0x1_0000_0000_0000_0000;
-
-// Returns whether two hash keys are equal. All 32 bytes are compared at once, so that the time does not tell how many of them are
-// equal.
-fn same_hash_key(a: &[u8; 32], b: &[u8; 32]) -> bool
-    ensures same { (result ≡ true) ↔ (a.now ≡ b.now) }
-    ensures are_blocks { IsBlock (take 16 a.now) × IsBlock (take 16 b.now) }
-{
-    a == b
-}
 
 /// The state of a pass over a message as plain numbers, without the message's key and nonce. Each number may have any value.
 ///
@@ -152,15 +143,6 @@ impl PassState {
         ensures { result ≡ drop 16 self.now.hash_key }
     {
         last_block(&self.hash_key)
-    }
-
-    // Whether both states have the same hash key. This verdict is public: a caller that resumes a state learns whether it belongs to
-    // the key and the nonce.
-    pub(crate) fn has_hash_key_of(&self, other: &PassState) -> bool
-        ensures same { (result ≡ true) ↔ (self.now.hash_key ≡ other.now.hash_key) }
-        ensures are_blocks { IsBlock (take 16 self.now.hash_key) × IsBlock (take 16 other.now.hash_key) }
-    {
-        same_hash_key(&self.hash_key, &other.hash_key)
     }
 
     // Whether the text so far and the piece are together within this limit.

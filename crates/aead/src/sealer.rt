@@ -1,14 +1,13 @@
 //! Sealing piece by piece in one reading, under the suites whose tag is over the ciphertext: ChaCha20-Poly1305 (RFC 8439)
 //! and AES-GCM (SP 800-38D).
 
-ghost use Rattle.std.specs.Prelude.{◌≡◌, ◌≤◌, ◌++◌, ℕ, List, [], length, MatchResult, IfOk, OnErr};
+ghost use Rattle.std.specs.Prelude.{◌≡◌, ◌≤◌, ◌++◌, ℕ, List, [], length, MatchResult, OnErr};
 ghost use Rattle.octets.specs.Masked.{masked};
 ghost use Rattle.aead.specs.Suites.{text_limit};
 ghost use Rattle.aead.specs.Sealing.{Setting, mask_of, tag_of};
 ghost use Rattle.aead.specs.Ciphers.{setting};
 ghost use Rattle.aead.specs.AnyCiphers.{one_pass_keyed};
 ghost use Rattle.aead.specs.Refusals.{SealRefused};
-ghost use Rattle.aead.specs.PassStates.{HasHashKey, HoldsNone, HoldsState};
 
 use crate::aead::Aead;
 use crate::any::AnyOnePass;
@@ -44,38 +43,6 @@ impl<'a> Sealer<'a> {
             state: cipher.initial_state(nonce, aad),
             known: KnownBlock::none(),
         })
-    }
-
-    /// Goes on from a saved `state`, which [`Sealer::state`] returned under the same cipher and nonce. `TagMismatch` if the
-    /// state belongs to another key or nonce.
-    pub fn resumed(
-        cipher: &'a AnyOnePass,
-        nonce: &Nonce,
-        state: &PassState,
-    ) -> Result<Sealer<'a>, Fault>
-        ensures answer { MatchResult result
-            (λ sealer. (aad text : List ℕ) → let s = setting (one_pass_keyed cipher.now) nonce.now aad in
-            HoldsState state.now s text → HoldsSealer sealer s text)
-            (λ e. (e ≡ Fault.TagMismatch)
-            × HoldsNone state.now (setting (one_pass_keyed cipher.now) nonce.now)) }
-        ensures key { IfOk result (λ _. HasHashKey state.now (setting (one_pass_keyed cipher.now) nonce.now)) }
-    {
-        let fresh = cipher.initial_state(nonce, &[]);
-        if !state.has_hash_key_of(&fresh) {
-            return Err(Fault::TagMismatch);
-        }
-        Ok(Sealer {
-            keys: cipher.keys(nonce),
-            state: *state,
-            known: KnownBlock::none(),
-        })
-    }
-
-    /// Returns the state as plain numbers, for [`Sealer::resumed`].
-    pub fn state(&self) -> PassState
-        ensures { (s : Setting) (text : List ℕ) → HoldsSealer self.now s text → HoldsState result s text }
-    {
-        self.state
     }
 
     /// Adds `piece`, of any length, to the text, and replaces it with its ciphertext. `TextTooLong` if the text would be longer

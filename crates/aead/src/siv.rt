@@ -1,13 +1,12 @@
 //! Sealing piece by piece in two readings under AES-GCM-SIV (RFC 8452), whose tag is over the text: the first reading gives
 //! the tag, and the second one is encrypted under it.
 
-ghost use Rattle.std.specs.Prelude.{◌≡◌, ◌++◌, ◌+◌, ◌<◌, ◌≤◌, ℕ, List, [], length, MatchResult, IfOk, OnErr};
+ghost use Rattle.std.specs.Prelude.{◌≡◌, ◌++◌, ◌+◌, ◌<◌, ◌≤◌, ℕ, List, [], length, MatchResult, OnErr};
 ghost use Rattle.octets.specs.Masked.{masked};
 ghost use Rattle.aead.specs.Suites.{text_limit};
 ghost use Rattle.aead.specs.Sealing.{Setting, mask_of, tag_of};
 ghost use Rattle.aead.specs.Ciphers.{setting};
 ghost use Rattle.aead.specs.Refusals.{FitsIn, SealRefused};
-ghost use Rattle.aead.specs.PassStates.{HasHashKey, HoldsNone};
 
 use crate::aead::Aead;
 use crate::gcm_siv::GcmSiv;
@@ -24,7 +23,7 @@ pub struct SivAbsorb {
 }
 
 impl SivAbsorb {
-    ghost use Rattle.aead.specs.Pieces.{HoldsAbsorb, HoldsWriter, IsInFirstReading};
+    ghost use Rattle.aead.specs.Pieces.{HoldsAbsorb, HoldsWriter};
 
     /// Begins with the empty text, under a nonce with associated data. `AadTooLong` if the data is longer than the suite's
     /// limit.
@@ -39,31 +38,6 @@ impl SivAbsorb {
         let keys = SivKeys::new(cipher, nonce);
         let state = TwoPassState::first_reading(keys.initial_state(aad));
         Ok(SivAbsorb { keys, state })
-    }
-
-    /// Goes on from a saved `state`, which [`SivAbsorb::state`] returned under the same cipher and nonce. `TagMismatch` if the
-    /// state belongs to another key or nonce.
-    pub fn resumed(cipher: &GcmSiv, nonce: &Nonce, state: &TwoPassState) -> Result<SivAbsorb, Fault>
-        ensures answer { MatchResult result
-            (λ absorb. (aad text : List ℕ) → let s = setting cipher.now nonce.now aad in
-            IsInFirstReading state.now s text → HoldsAbsorb absorb s text)
-            (λ e. (e ≡ Fault.TagMismatch) × HoldsNone state.now.pass (setting cipher.now nonce.now)) }
-        ensures key { IfOk result (λ _. HasHashKey state.now.pass (setting cipher.now nonce.now)) }
-    {
-        match SivKeys::resumed(cipher, nonce, &state.pass) {
-            Ok(keys) => Ok(SivAbsorb {
-                keys,
-                state: *state,
-            }),
-            Err(fault) => Err(fault),
-        }
-    }
-
-    /// Returns the state as plain numbers, for [`SivAbsorb::resumed`].
-    pub fn state(&self) -> TwoPassState
-        ensures { (s : Setting) (text : List ℕ) → HoldsAbsorb self.now s text → IsInFirstReading result s text }
-    {
-        self.state
     }
 
     /// Adds `piece`, of any length, to the text. `TextTooLong` if the text would be longer than the suite's limit: the state
@@ -106,34 +80,7 @@ pub struct SivWriter {
 }
 
 impl SivWriter {
-    ghost use Rattle.aead.specs.Pieces.{HoldsWriter, IsInSecondReading, Repeats, siv_writer_count, siv_writer_limit};
-
-    /// Goes on from a saved `state`, which [`SivWriter::state`] returned under the same cipher and nonce. `TagMismatch` if the
-    /// state belongs to another key or nonce.
-    pub fn resumed(cipher: &GcmSiv, nonce: &Nonce, state: &TwoPassState) -> Result<SivWriter, Fault>
-        ensures answer { MatchResult result
-            (λ writer. (aad first text : List ℕ) → let s = setting cipher.now nonce.now aad in
-            IsInSecondReading state.now s first text → HoldsWriter writer s first text)
-            (λ e. (e ≡ Fault.TagMismatch) × HoldsNone state.now.pass (setting cipher.now nonce.now)) }
-        ensures key { IfOk result (λ _. HasHashKey state.now.pass (setting cipher.now nonce.now)) }
-    {
-        match SivKeys::resumed(cipher, nonce, &state.pass) {
-            Ok(keys) => Ok(SivWriter {
-                keys,
-                state: *state,
-                known: KnownBlock::none(),
-            }),
-            Err(fault) => Err(fault),
-        }
-    }
-
-    /// Returns the state as plain numbers, for [`SivWriter::resumed`]: they hold the tag and the length of the first text.
-    pub fn state(&self) -> TwoPassState
-        ensures { (s : Setting) (first text : List ℕ) → HoldsWriter self.now s first text
-            → IsInSecondReading result s first text }
-    {
-        self.state
-    }
+    ghost use Rattle.aead.specs.Pieces.{HoldsWriter, Repeats, siv_writer_count, siv_writer_limit};
 
     /// Adds `piece`, of any length, to the second text, and replaces it with its ciphertext. `SourceChanged` if that text would
     /// be longer than the first: the state and the piece do not change then.

@@ -1,17 +1,17 @@
 //! The keys of a message of AES-GCM-SIV (RFC 8452, 4) and its nonce, with the key schedule and the small table of the hash key.
 
-ghost use Rattle.std.specs.Prelude.{◌≡◌, ◌≤◌, ℕ, List, [], length, MatchResult, IfOk};
+ghost use Rattle.std.specs.Prelude.{◌≡◌, ◌≤◌, ℕ, List, [], length};
 ghost use Rattle.aead.specs.Suites.{ByGcmSiv, aad_limit};
 ghost use Rattle.aead.specs.Sealing.{Setting};
 ghost use Rattle.aead.specs.Ciphers.{setting};
-ghost use Rattle.aead.specs.PassStates.{HasHashKey, HoldsNone, HoldsNumbers};
+ghost use Rattle.aead.specs.PassStates.{HoldsNumbers};
 
 use crate::derived_keys::DerivedKeys;
 use crate::gcm_siv::GcmSiv;
 use crate::keys::{LentMul, MessageKeys};
 use crate::pass_state::PassState;
 use gf128::{Keyed128, TableMul};
-use octets::{Fault, Nonce};
+use octets::Nonce;
 
 // The keys of a message and its nonce.
 #[derive(Drop)]
@@ -35,27 +35,6 @@ impl SivKeys {
             multiplier: TableMul::of(&derived.hash_key),
             derived,
             nonce: *nonce,
-        }
-    }
-
-    // Derives the keys of the message with this nonce, to go on from a saved state. `TagMismatch` if the state belongs to another
-    // key or nonce.
-    pub(crate) fn resumed(
-        cipher: &GcmSiv,
-        nonce: &Nonce,
-        state: &PassState,
-    ) -> Result<SivKeys, Fault>
-        ensures answer { MatchResult result
-            (λ keys. (aad : List ℕ) → AreKeys keys (setting cipher.now nonce.now aad))
-            (λ e. (e ≡ Fault.TagMismatch) × HoldsNone state.now (setting cipher.now nonce.now)) }
-        ensures key { IfOk result (λ _. HasHashKey state.now (setting cipher.now nonce.now)) }
-    {
-        let keys = SivKeys::new(cipher, nonce);
-        let fresh = keys.initial_state(&[]);
-        if state.has_hash_key_of(&fresh) {
-            Ok(keys)
-        } else {
-            Err(Fault::TagMismatch)
         }
     }
 

@@ -1,4 +1,4 @@
-//! The state of a sealing in two readings or of an opening in two passes, as plain numbers, which a caller can save. The steps are
+//! The state of a sealing in two readings or of an opening in two passes, as plain numbers. The steps are
 //! the same whether a cipher lends the keys or a [`crate::KeyAndNonce`].
 
 ghost use Rattle.std.specs.Prelude.{◌≡◌, ◌+◌, ◌<◌, ◌≤◌, ◌++◌, ℕ, List, [], length, min, true, false};
@@ -21,8 +21,8 @@ use octets::{Fault, Order, Tag, same};
 #[repr(C)]
 #[derive(Clone, Copy)]
 pub struct TwoPassState {
-    /// The state of the reading or the pass, which [`crate::KeyAndNonce::resumed`] compares with a key and a nonce.
-    pub pass: PassState,
+    // The state of the reading or the pass.
+    pub(crate) pass: PassState,
     // The sum of the hash over the padded associated data, where both readings or passes begin.
     pub(crate) start: Sum,
     // The tag of the first text, in the second reading; or the tag of the sealing, in both passes.

@@ -86,28 +86,23 @@ fn a_long_text(rt: HostRuntime) {
     }
 }
 
-// Seals a text that is read once, in a long piece and a short one, and returns the tag. The state is saved and resumed
-// between the two.
+// Seals a text that is read once, in a long piece and a short one, and returns the tag.
 fn by_one_reading(rt: &impl Abort, cipher: &AnyOnePass, nonce: &Nonce, text: &mut [u8]) -> Tag {
     let (front, back) = text.split_at_mut(text.len().min(721));
     let mut sealer = Sealer::new(cipher, nonce, &[]).expect(rt, "a sealer");
     shows(rt, sealer.update(front).is_ok(), "a long piece");
-    let mut sealer = Sealer::resumed(cipher, nonce, &sealer.state()).expect(rt, "a sealer");
     shows(rt, sealer.update(back).is_ok(), "a short piece");
     sealer.finish()
 }
 
-// Seals a text that is read twice, in a long piece and a short one, and returns the tag. In each reading the state is
-// saved and resumed between the two.
+// Seals a text that is read twice, in a long piece and a short one, and returns the tag.
 fn by_two_readings(rt: &impl Abort, cipher: &GcmSiv, nonce: &Nonce, text: &mut [u8]) -> Tag {
     let (front, back) = text.split_at_mut(text.len().min(721));
     let mut absorb = SivAbsorb::new(cipher, nonce, &[]).expect(rt, "a state");
     shows(rt, absorb.update(front).is_ok(), "a long piece");
-    let mut absorb = SivAbsorb::resumed(cipher, nonce, &absorb.state()).expect(rt, "a state");
     shows(rt, absorb.update(back).is_ok(), "a short piece");
     let (tag, mut writer) = absorb.finish();
     shows(rt, writer.update(front).is_ok(), "a long piece");
-    let mut writer = SivWriter::resumed(cipher, nonce, &writer.state()).expect(rt, "a state");
     shows(rt, writer.update(back).is_ok(), "a short piece");
     shows(rt, writer.finish().is_ok(), "the end");
     tag

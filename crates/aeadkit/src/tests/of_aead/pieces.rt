@@ -80,8 +80,7 @@ fn second_readings(rt: HostRuntime) {
     ends(&rt, &sample, &mut [1, 0, 0, 0, 0, 0, 0], changed);
 }
 
-// The writer for the second pass over a ciphertext. The first pass reads all but the last byte, and then the last byte;
-// the state is saved and resumed between the two.
+// The writer for the second pass over a ciphertext. The first pass reads all but the last byte, and then the last byte.
 fn checked<'a>(
     rt: &impl Abort,
     sample: &'a Sample,
@@ -93,13 +92,11 @@ fn checked<'a>(
     );
     let (front, back) = body.split_at(body.len().saturating_sub(1));
     shows(rt, opener.update(front).is_ok(), "a piece");
-    let mut resumed = Opener::resumed(&sample.cipher, &sample.nonce, &opener.state())?;
-    shows(rt, resumed.update(back).is_ok(), "a piece");
-    resumed.finish()
+    shows(rt, opener.update(back).is_ok(), "a piece");
+    opener.finish()
 }
 
-// Opens a published sealing in pieces to its text, with the state saved and resumed between two pieces. A bit that is
-// flipped before the first pass is noticed, and so is a second pass over other bytes. A byte past the length of the
+// Opens a published sealing in pieces to its text. A bit that is flipped before the first pass is noticed, and so is a second pass over other bytes. A byte past the length of the
 // first pass is refused.
 fn is_opened(rt: &(impl Abort + Alloc<A = Global>), line: &str) {
     let sample = sample_of(rt, line);
@@ -118,13 +115,10 @@ fn is_opened(rt: &(impl Abort + Alloc<A = Global>), line: &str) {
     let length = body.len();
     let (front, back) = body.split_at_mut(length.min(3));
     shows(rt, writer.update(front).is_ok(), "a piece");
-    let mut resumed = OpenWriter::resumed(&sample.cipher, &sample.nonce, &writer.state()).expect(
-        rt, "a state",
-    );
-    shows(rt, resumed.update(back).is_ok(), "a piece");
-    let past = resumed.update(&mut [0]) == Err(Fault::SourceChanged);
+    shows(rt, writer.update(back).is_ok(), "a piece");
+    let past = writer.update(&mut [0]) == Err(Fault::SourceChanged);
     shows(rt, past, "a byte past the ciphertext");
-    shows(rt, resumed.finish().is_ok(), "the same ciphertext");
+    shows(rt, writer.finish().is_ok(), "the same ciphertext");
     shows(rt, body.as_slice() == sample.text.as_slice(), "the text");
     shows(rt, changed.update(&mut body).is_ok(), "a piece");
     let refused = changed.finish() == Err(Fault::SourceChanged);
