@@ -2,7 +2,7 @@
 //! lengths. A caller in C has it in its own memory.
 
 ghost use Rattle.std.specs.Prelude.{◌≡◌, ◌↔◌, ◌+◌, ◌*◌, ◌<◌, ◌≤◌, ◌^◌, ◌++◌, ℕ, List, [], length, take, drop, true, false};
-ghost use Rattle.std.specs.Prelude.{MatchResult, OnErr};
+ghost use Rattle.std.specs.Prelude.{MatchResult, IfOk, OnErr};
 ghost use Rattle.octets.specs.Bytes.{IsBlock, pad16};
 ghost use Rattle.octets.specs.Masked.{masked};
 ghost use Rattle.aead.specs.Suites.{construction_of, is_one_pass, text_limit, text_limit_by, aad_limit};
@@ -295,6 +295,7 @@ impl PassState {
             × (length (text ++ piece.old) ≤ text_limit s.suite) × KnowsCipherOf known.new s)
             (λ e. SealRefused s (text ++ piece.old) e) }
         ensures kept { OnErr result ((self.new ≡ self.old) × (piece.new ≡ piece.old) × (known.new ≡ known.old)) }
+        ensures count { IfOk result (λ _. self.new.length ≡ self.old.length + length piece.old) }
         ensures fault { FitsIn Fault.TextTooLong result self.old.length (length piece.old)
             (text_limit_by (construction_by keys.now.cipher)) }
     {

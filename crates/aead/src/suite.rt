@@ -190,3 +190,7 @@ impl Suite {
         Ok(())
     }
 }
+
+const _: () = prove!(Suite::TAG_LENGTH == 16);
+
+const _: () = prove!(Suite::NONCE_LENGTH == 12);

@@ -219,6 +219,9 @@ impl TwoPassState {
             → IsInFirstPass self.old s tag body
             → MatchResult result (λ _. IsInSecondPass self.new s tag (length body) [] × Opens s tag body)
             (λ e. (e ≡ Fault.TagMismatch) × IsNoSealing s (body ++ tag)) }
+        ensures compared { (s : Setting) (tag body : List ℕ) → AreKeysOf keys.now s → MasksByBytes s
+            → IsInPass self.old s tag body
+            → MatchResult result (λ _. Opens s tag body) (λ _. IsNoSealing s (body ++ tag)) }
         ensures kept { OnErr result (self.new ≡ self.old) }
         ensures fault { MatchResult result (λ _. Unit {0}) (λ e. e ≡ Fault.TagMismatch) }
     {
@@ -264,6 +267,9 @@ impl TwoPassState {
         ensures answer { (s : Setting) (tag : List ℕ) (first : ℕ) (body : List ℕ) → AreKeysOf keys.now s
             → MasksByBytes s → IsInSecondPass self.now s tag first body → MatchResult result (λ _. Opens s tag body)
             (λ e. (e ≡ Fault.SourceChanged) × IsNoSealing s (body ++ tag)) }
+        ensures compared { (s : Setting) (tag body : List ℕ) → AreKeysOf keys.now s → MasksByBytes s
+            → IsInPass self.now s tag body
+            → MatchResult result (λ _. Opens s tag body) (λ _. IsNoSealing s (body ++ tag)) }
         ensures fault { MatchResult result (λ _. Unit {0}) (λ e. e ≡ Fault.SourceChanged) }
     {
         if self.is_sealing(keys) {
