@@ -2,10 +2,9 @@
 
 ghost use Rattle.std.specs.Prelude.{◌≡◌, ◌≢◌, ◌≤◌, ◌++◌, ℕ, List, [], length, true, MatchResult};
 ghost use Rattle.aead.specs.Suites.{construction_of, is_one_pass, key_length, text_limit, aad_limit};
-ghost use Rattle.aead.specs.Sealing.{Opened, hash_key};
+ghost use Rattle.aead.specs.Sealing.{hash_key};
 ghost use Rattle.aead.specs.Ciphers.{setting};
 ghost use Rattle.aead.specs.AnyCiphers.{one_pass_keyed, keyed_of};
-ghost use Rattle.aead.specs.Refusals.{OpenRefused};
 ghost use Rattle.aead.specs.PassStates.{HoldsNumbers};
 ghost use Rattle.aead.specs.Pieces.{MasksByBytes};
 ghost use Rattle.aead.specs.Code.MessageKeys.{AreKeysOf, lent_key};
@@ -120,32 +119,6 @@ impl AnyAead {
             }
         }
     }
-
-    // Opens a ciphertext and its tag in place, for a caller that drops the bytes if authentication fails: they are unspecified
-    // then. So ChaCha20-Poly1305 may decrypt while it authenticates.
-    pub(crate) fn open_beside(
-        &self,
-        nonce: &Nonce,
-        aad: &[u8],
-        body: &mut [u8],
-        tag: &Tag,
-    ) -> Result<(), Fault>
-        requires aad_fits { length aad.now ≤ aad_limit (keyed_of self.now).suite }
-        requires text_fits { length body.old ≤ text_limit (keyed_of self.now).suite }
-        ensures { let s = setting (keyed_of self.now) nonce.now aad.now in
-            MatchResult result (λ _. Opened s (body.old ++ tag.now) body.new)
-            (OpenRefused s body.old tag.now) }
-    {
-        match self {
-            AnyAead::OnePass(AnyOnePass::ChaCha(cipher)) => {
-                cipher.open_beside(nonce, aad, body, tag)
-            }
-            AnyAead::OnePass(AnyOnePass::Gcm(cipher)) => {
-                cipher.open_fitting(nonce, aad, body, tag)
-            }
-            AnyAead::Siv(cipher) => cipher.open_fitting(nonce, aad, body, tag),
-        }
-    }
 }
 
 impl Aead for AnyOnePass {
@@ -178,6 +151,19 @@ impl Aead for AnyOnePass {
         match self {
             AnyOnePass::ChaCha(cipher) => cipher.open_fitting(nonce, aad, body, tag),
             AnyOnePass::Gcm(cipher) => cipher.open_fitting(nonce, aad, body, tag),
+        }
+    }
+
+    fn open_and_restore(
+        &self,
+        nonce: &Nonce,
+        aad: &[u8],
+        body: &mut [u8],
+        tag: &Tag,
+    ) -> Result<(), Fault> {
+        match self {
+            AnyOnePass::ChaCha(cipher) => cipher.open_and_restore(nonce, aad, body, tag),
+            AnyOnePass::Gcm(cipher) => cipher.open_and_restore(nonce, aad, body, tag),
         }
     }
 }
@@ -215,6 +201,24 @@ impl Aead for AnyAead {
                 cipher.open_fitting(nonce, aad, body, tag)
             }
             AnyAead::Siv(cipher) => cipher.open_fitting(nonce, aad, body, tag),
+        }
+    }
+
+    fn open_and_restore(
+        &self,
+        nonce: &Nonce,
+        aad: &[u8],
+        body: &mut [u8],
+        tag: &Tag,
+    ) -> Result<(), Fault> {
+        match self {
+            AnyAead::OnePass(AnyOnePass::ChaCha(cipher)) => {
+                cipher.open_and_restore(nonce, aad, body, tag)
+            }
+            AnyAead::OnePass(AnyOnePass::Gcm(cipher)) => {
+                cipher.open_and_restore(nonce, aad, body, tag)
+            }
+            AnyAead::Siv(cipher) => cipher.open_and_restore(nonce, aad, body, tag),
         }
     }
 }

@@ -2,19 +2,17 @@
 //! masked from counter 1 on.
 
 ghost use Rattle.std.specs.Prelude.{◌≡◌, ℕ, List, ◌-◌, ◌^◌, ◌%◌, ◌<◌, ◌≤◌, ◌++◌, length, take, slice_index, refl};
-ghost use Rattle.std.specs.Prelude.{MatchResult};
 ghost use Rattle.chacha.specs.Stream.{key_stream_byte};
 ghost use Rattle.aead.specs.Suites.{ByChaCha, construction_of, text_limit, aad_limit};
 ghost use Rattle.aead.specs.Sealing.{Setting, Opened, poly_key, tag_over};
 ghost use Rattle.aead.specs.Code.States.{MadeByChaCha, digest_over};
 ghost use Rattle.aead.specs.Ciphers.{Keyed, setting};
-ghost use Rattle.aead.specs.Refusals.{OpenRefused};
 ghost use Rattle.aead.specs.InPlace.{OpensInPlace};
 ghost use Rattle.aead.specs.declared.suite.Suite.TheVariants.{ChaCha20Poly1305};
 
 use crate::aead::Aead;
 use crate::buffered_stream::BufferedStream;
-use crate::one_pass::{OnePass, open_and_restore, open_beside, open_whole, seal_whole};
+use crate::one_pass::{OnePass, open_and_restore, open_whole, seal_whole};
 use crate::suite::Suite;
 use chacha::{
     BlocksAtOnce, ChaStream, EightBlocks, FiveBlocks, FourBlocks, KeyStreamStart, NineBlocks,
@@ -83,28 +81,6 @@ impl ChaChaPoly {
         let first = S::make(key, nonce);
         let start = first.blocks();
         open_whole(&BufferedChaCha { key, nonce, start }, aad, body, tag)
-    }
-
-    // Opens a ciphertext and its tag in place, and authenticates it meanwhile. On error the contents of the buffer are
-    // unspecified.
-    pub(crate) fn open_beside(
-        &self,
-        nonce: &Nonce,
-        aad: &[u8],
-        body: &mut [u8],
-        tag: &Tag,
-    ) -> Result<(), Fault>
-        requires aad_fits { length aad.now ≤ aad_limit self.now.suite }
-        requires text_fits { length body.old ≤ text_limit self.now.suite }
-        ensures { let s = setting self.now nonce.now aad.now in
-            MatchResult result (λ _. Opened s (body.old ++ tag.now) body.new)
-            (OpenRefused s body.old tag.now) }
-    {
-        if body.len() <= SEVEN_BLOCKS {
-            return self.open_fitting(nonce, aad, body, tag);
-        }
-        let key = &self.key;
-        open_beside(&NoncedChaCha { key, nonce }, aad, body, tag)
     }
 }
 

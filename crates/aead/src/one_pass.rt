@@ -86,7 +86,7 @@ pub(crate) fn open_whole<N: OnePass>(
 }
 
 // Decrypts a ciphertext in place while it is authenticated. On error the bytes are what the ciphertext would open to.
-pub(crate) fn open_beside<N: OnePass>(
+fn open_beside<N: OnePass>(
     message: &N,
     aad: &[u8],
     body: &mut [u8],

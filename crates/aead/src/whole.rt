@@ -31,7 +31,7 @@ fn opened_text<A: Allocator>(
     };
     suite.check_text(body)?;
     let mut text = Vec::from_slice(alloc, body)?;
-    cipher.open_beside(nonce, aad, &mut text, &Tag::new(*tag))?;
+    cipher.open_and_restore(nonce, aad, &mut text, &Tag::new(*tag))?;
     Ok(text)
 }
 
