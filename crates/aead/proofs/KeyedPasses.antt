@@ -8,7 +8,7 @@ use Rattle.gf128.specs.Orders.{Reversed, Serves}
 use Rattle.aead.specs.declared.suite.Suite.{Suite}
 use Rattle.aead.specs.declared.suite.Suite.TheVariants.{ChaCha20Poly1305, Aes128Gcm, Aes192Gcm, Aes256Gcm}
 use Rattle.aead.specs.declared.suite.Suite.TheVariants.{Aes128GcmSiv, Aes256GcmSiv}
-use Rattle.aead.specs.declared.key_and_nonce.KeyAndNonce.{KeyAndNonce}
+use Rattle.aead.specs.declared.pieces.key_and_nonce.KeyAndNonce.{KeyAndNonce}
 use Rattle.aead.specs.Suites.{Construction, ByChaCha, ByGcm, ByGcmSiv, construction_of, is_one_pass, key_length}
 use Rattle.aead.specs.Suites.{text_limit_by}
 use Rattle.aead.specs.Sealing.{Setting, authentication_key, encryption_key, mask_of, tag_over, tag_of}

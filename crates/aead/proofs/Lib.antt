@@ -9,7 +9,7 @@ pub mod Vectors
 mod Computed
 mod GcmVector
 mod GcmSivVector
-mod Pieces
+mod CutPieces
 mod Maskings
 mod BufferedStreams
 mod Tags

@@ -2,7 +2,7 @@
 use Rattle.std.proofs.Common.{◌≡◌, ℕ, true, List, [], length, sym, subst, refl, ◌∙◌, arith}
 use Rattle.octets.specs.Masked.{masked}
 use Rattle.octets.proofs.Masks.{length-masked}
-use Rattle.aead.specs.declared.pass_state.PassState.{PassState}
+use Rattle.aead.specs.declared.pieces.pass_state.PassState.{PassState}
 use Rattle.aead.specs.Suites.{Construction, ByChaCha, ByGcm, ByGcmSiv, construction_of, is_one_pass}
 use Rattle.aead.specs.Sealing.{Setting, Fits, mask_of}
 use Rattle.aead.specs.Code.Masks.{none_leaves}

@@ -7,8 +7,8 @@ use Rattle.octets.specs.declared.fault.Fault.{Fault}
 use Rattle.octets.specs.declared.fault.Fault.TheVariants.{KeyLength, NonceLength, AadTooLong}
 use Rattle.octets.specs.Refusals.{◌unless◌, FirstOf}
 use Rattle.aead.specs.declared.suite.Suite.{Suite}
-use Rattle.aead.specs.declared.key_and_nonce.KeyAndNonce.{KeyAndNonce}
-use Rattle.aead.specs.declared.pass_state.PassState.{PassState}
+use Rattle.aead.specs.declared.pieces.key_and_nonce.KeyAndNonce.{KeyAndNonce}
+use Rattle.aead.specs.declared.pieces.pass_state.PassState.{PassState}
 use Rattle.aead.specs.Suites.{Construction, ByChaCha, ByGcm, ByGcmSiv, construction_of, key_length, aad_limit}
 use Rattle.aead.specs.Sealing.{Setting, encryption_key}
 use Rattle.aead.specs.PassStates.{HoldsNumbers}

@@ -6,8 +6,8 @@ use Rattle.poly1305.specs.Code.States as poly1305
 use Rattle.aes.specs.Cipher.{cipher}
 use Rattle.gf128.specs.Orders.{Straight, Reversed, Serves}
 use Rattle.gf128.specs.Code.States as gf128
-use Rattle.aead.specs.declared.pass_state.PassState.{PassState}
-use Rattle.aead.specs.declared.pass_state.Sum.{Sum}
+use Rattle.aead.specs.declared.pieces.pass_state.PassState.{PassState}
+use Rattle.aead.specs.declared.pieces.pass_state.Sum.{Sum}
 use Rattle.aead.specs.Suites.{Construction, ByChaCha, ByGcm, ByGcmSiv, construction_of}
 use Rattle.aead.specs.Sealing.{Setting, Fits, mask_of, poly_key, hash_key, j0, authentication_key}
 

@@ -2,16 +2,16 @@
 use Rattle.std.specs.Prelude.{◌≡◌, ℕ, ◌<◌, ◌≤◌, min, true, List, ◌++◌, length, get_or, replicate}
 use Rattle.octets.specs.Masked.{masked}
 use Rattle.gf128.specs.Code.States.{key_of}
-use Rattle.aead.specs.declared.pass_state.PassState.{PassState}
-use Rattle.aead.specs.declared.opener.Opener.{Opener}
-use Rattle.aead.specs.declared.opener.OpenWriter.{OpenWriter}
-use Rattle.aead.specs.declared.opener.OpenerKeys.{OpenerKeys}
-use Rattle.aead.specs.declared.opener.OpenerKeys.TheVariants.{OnePass, Siv}
-use Rattle.aead.specs.declared.sealer.Sealer.{Sealer}
-use Rattle.aead.specs.declared.siv.SivAbsorb.{SivAbsorb}
-use Rattle.aead.specs.declared.siv.SivWriter.{SivWriter}
-use Rattle.aead.specs.declared.siv_keys.SivKeys.{SivKeys}
-use Rattle.aead.specs.declared.two_pass_state.TwoPassState.{TwoPassState}
+use Rattle.aead.specs.declared.pieces.pass_state.PassState.{PassState}
+use Rattle.aead.specs.declared.pieces.opener.Opener.{Opener}
+use Rattle.aead.specs.declared.pieces.opener.OpenWriter.{OpenWriter}
+use Rattle.aead.specs.declared.pieces.opener.OpenerKeys.{OpenerKeys}
+use Rattle.aead.specs.declared.pieces.opener.OpenerKeys.TheVariants.{OnePass, Siv}
+use Rattle.aead.specs.declared.pieces.sealer.Sealer.{Sealer}
+use Rattle.aead.specs.declared.pieces.siv.SivAbsorb.{SivAbsorb}
+use Rattle.aead.specs.declared.pieces.siv.SivWriter.{SivWriter}
+use Rattle.aead.specs.declared.derived_keys.SivKeys.{SivKeys}
+use Rattle.aead.specs.declared.pieces.two_pass_state.TwoPassState.{TwoPassState}
 use Rattle.aead.specs.Suites.{Construction, ByGcmSiv, construction_of, is_one_pass, text_limit, text_limit_by}
 use Rattle.aead.specs.Sealing.{Setting, Opened, mask_of, tag_of, sealing}
 use Rattle.aead.specs.PassStates.{HoldsNumbers, HoldsState, IsStart, zero_state, zero_sum}

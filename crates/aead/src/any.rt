@@ -10,13 +10,13 @@ ghost use Rattle.aead.specs.Pieces.{MasksByBytes};
 ghost use Rattle.aead.specs.Code.MessageKeys.{AreKeysOf, lent_key};
 
 use crate::aead::Aead;
-use crate::aes_pass;
 use crate::chacha_poly::{ChaChaPoly, one_time_key};
 use crate::gcm::{Gcm, hash_keys};
 use crate::gcm_siv::GcmSiv;
 use crate::hashes::PolyKeys;
-use crate::keys::{AesKeys, CipherKeys, ExpandedKey, LentMul, MessageKeys};
-use crate::pass_state::PassState;
+use crate::pieces::aes_pass;
+use crate::pieces::keys::{AesKeys, CipherKeys, ExpandedKey, LentMul, MessageKeys};
+use crate::pieces::pass_state::PassState;
 use crate::suite::{Construction, Suite};
 use aes::AesKey;
 use gf128::GhashOrder;

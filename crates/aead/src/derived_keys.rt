@@ -7,13 +7,13 @@ ghost use Rattle.gf128.specs.Polyval.{IsReversedMulX};
 ghost use Rattle.aead.specs.Suites.{construction_of, key_length, ByGcmSiv};
 ghost use Rattle.aead.specs.Sealing.{key_part, authentication_key, encryption_key};
 
-use crate::aes_pass;
-use crate::gcm_siv::hash_keys;
-use crate::keys::{AesKeys, CipherKeys, ExpandedKey, LentMul, MessageKeys};
-use crate::pass_state::PassState;
+use crate::gcm_siv::{GcmSiv, hash_keys};
+use crate::pieces::aes_pass;
+use crate::pieces::keys::{AesKeys, CipherKeys, ExpandedKey, LentMul, MessageKeys};
+use crate::pieces::pass_state::PassState;
 use crate::suite::Suite;
 use aes::AesKey;
-use gf128::{PolyvalOrder, reversed_mul_x};
+use gf128::{Keyed128, PolyvalOrder, TableMul, reversed_mul_x};
 use octets::{Block, Nonce};
 
 // Returns two arrays of one length, joined.
@@ -182,5 +182,53 @@ impl DerivedKeys {
             → HoldsNumbers result s [] }
     {
         aes_pass::initial_state::<PolyvalOrder>(hash_keys(&self.hash_key), aad)
+    }
+}
+
+// The keys of a message and its nonce, with a multiplier by the hash key.
+#[derive(Drop)]
+pub(crate) struct SivKeys {
+    derived: DerivedKeys,
+    // The small table of the hash key, for short pieces.
+    multiplier: TableMul,
+    nonce: Nonce,
+}
+
+impl SivKeys {
+    ghost use Rattle.std.specs.Prelude.{List, []};
+    ghost use Rattle.aead.specs.Suites.{aad_limit};
+    ghost use Rattle.aead.specs.Sealing.{Setting};
+    ghost use Rattle.aead.specs.Ciphers.{setting};
+    ghost use Rattle.aead.specs.PassStates.{HoldsNumbers};
+    ghost use Rattle.aead.specs.Pieces.{AreKeys};
+    ghost use Rattle.aead.specs.Code.MessageKeys.{construction_by, AreKeysOf};
+
+    // Derives the keys of the message with this nonce.
+    pub(crate) fn new(cipher: &GcmSiv, nonce: &Nonce) -> SivKeys
+        ensures { (aad : List ℕ) → AreKeys result (setting cipher.now nonce.now aad) }
+    {
+        let derived = cipher.derive(nonce);
+        SivKeys {
+            multiplier: TableMul::of(&derived.hash_key),
+            derived,
+            nonce: *nonce,
+        }
+    }
+
+    // Lends the keys for a step.
+    pub(crate) fn keys<'a>(&'a self) -> MessageKeys<'a>
+        ensures by { construction_by result.cipher ≡ ByGcmSiv }
+        ensures keys { (s : Setting) → AreKeys self.now s → AreKeysOf result s }
+    {
+        self.derived
+            .message_keys(&self.nonce, LentMul::Table(&self.multiplier))
+    }
+
+    // Returns the initial state for associated data.
+    pub(crate) fn initial_state(&self, aad: &[u8]) -> PassState
+        ensures { (s : Setting) → AreKeys self.now s → s.aad ≡ aad.now → length aad.now ≤ aad_limit s.suite
+            → HoldsNumbers result s [] }
+    {
+        self.derived.initial_state(aad)
     }
 }

@@ -1,7 +1,6 @@
 //! Sealing and opening of streams in buffers of a fixed size: three engines, and the passes over a reading that they
 //! share.
 
-mod discard;
 mod measure;
 mod open;
 mod opening;

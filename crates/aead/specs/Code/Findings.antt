@@ -8,8 +8,8 @@ use Rattle.octets.specs.Masked.{masked}
 use Rattle.aead.specs.declared.engine.passes.Finding.{Finding}
 use Rattle.aead.specs.declared.engine.passes.Finding.TheVariants.{Differs, Unsealed, Sealed}
 use Rattle.aead.specs.Sealing.{Setting, Fits, Opened, IsNoSealing, mask_of, tag_of}
-use Rattle.aead.specs.declared.keys.MessageKeys.{MessageKeys}
-use Rattle.aead.specs.declared.pass_state.PassState.{PassState}
+use Rattle.aead.specs.declared.pieces.keys.MessageKeys.{MessageKeys}
+use Rattle.aead.specs.declared.pieces.pass_state.PassState.{PassState}
 use Rattle.aead.specs.Suites.{construction_of, is_one_pass}
 use Rattle.aead.specs.PassStates.{HoldsNumbers}
 use Rattle.aead.specs.Pieces.{MasksByBytes}

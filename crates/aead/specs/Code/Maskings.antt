@@ -3,8 +3,8 @@ use Rattle.std.specs.Prelude.{◌≡◌, ℕ, ◌+◌, ◌-◌, List, length, re
 use Rattle.octets.specs.declared.work.Order.{Order}
 use Rattle.aead.specs.declared.engine.stage.Masking.{Masking}
 use Rattle.aead.specs.declared.engine.stage.Reading.{Reading}
-use Rattle.aead.specs.declared.keys.MessageKeys.{MessageKeys}
-use Rattle.aead.specs.declared.pass_state.PassState.{PassState}
+use Rattle.aead.specs.declared.pieces.keys.MessageKeys.{MessageKeys}
+use Rattle.aead.specs.declared.pieces.pass_state.PassState.{PassState}
 use Rattle.aead.specs.Suites.{text_limit_by}
 use Rattle.aead.specs.Sealing.{Setting, mask_of}
 use Rattle.aead.specs.PassStates.{HoldsNumbers}

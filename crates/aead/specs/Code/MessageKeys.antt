@@ -3,13 +3,13 @@ use Rattle.std.specs.Prelude.{◌≡◌, ℕ, List, take}
 use Rattle.gf128.specs.Orders.{Order, Straight, Reversed, Serves}
 use Rattle.gf128.specs.Code.States.{key_of}
 use Rattle.aead.specs.declared.derived_keys.DerivedKeys.{DerivedKeys}
-use Rattle.aead.specs.declared.keys.LentMul.{LentMul}
-use Rattle.aead.specs.declared.keys.LentMul.TheVariants.{Table, Wide}
-use Rattle.aead.specs.declared.keys.AesKeys.{AesKeys}
-use Rattle.aead.specs.declared.keys.AesKeys.TheVariants.{Expanded, Bytes}
-use Rattle.aead.specs.declared.keys.CipherKeys.{CipherKeys}
-use Rattle.aead.specs.declared.keys.CipherKeys.TheVariants.{ChaCha, Gcm, Siv}
-use Rattle.aead.specs.declared.keys.MessageKeys.{MessageKeys}
+use Rattle.aead.specs.declared.pieces.keys.LentMul.{LentMul}
+use Rattle.aead.specs.declared.pieces.keys.LentMul.TheVariants.{Table, Wide}
+use Rattle.aead.specs.declared.pieces.keys.AesKeys.{AesKeys}
+use Rattle.aead.specs.declared.pieces.keys.AesKeys.TheVariants.{Expanded, Bytes}
+use Rattle.aead.specs.declared.pieces.keys.CipherKeys.{CipherKeys}
+use Rattle.aead.specs.declared.pieces.keys.CipherKeys.TheVariants.{ChaCha, Gcm, Siv}
+use Rattle.aead.specs.declared.pieces.keys.MessageKeys.{MessageKeys}
 use Rattle.aead.specs.Suites.{Construction, ByChaCha, ByGcm, ByGcmSiv, construction_of, key_length}
 use Rattle.aead.specs.Sealing.{Setting, authentication_key, encryption_key}
 use Rattle.aead.specs.KeyedPasses.{cipher_key}

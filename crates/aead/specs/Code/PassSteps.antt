@@ -3,7 +3,7 @@ use Rattle.std.specs.Prelude.{◌≡◌, ℕ, ◌+◌, ◌≤◌, List, ◌++◌
 use Rattle.octets.specs.Masked.{masked}
 use Rattle.aes.specs.declared.counter.KnownBlock.{KnownBlock}
 use Rattle.aes.specs.Code.Streams.{KnowsCipher}
-use Rattle.aead.specs.declared.pass_state.PassState.{PassState}
+use Rattle.aead.specs.declared.pieces.pass_state.PassState.{PassState}
 use Rattle.aead.specs.Suites.{text_limit}
 use Rattle.aead.specs.Sealing.{Setting, mask_of}
 use Rattle.aead.specs.PassStates.{HoldsNumbers}

@@ -3,8 +3,7 @@
 ghost use Rattle.std.specs.Prelude.{◌≡◌, ◌++◌, ◌<◌, ◌≤◌, ◌^◌, ⊤, drop, length, replicate};
 ghost use Rattle.octets.specs.Bytes.{IsBlock};
 
-use crate::engine::discard::Discard;
-use crate::engine::passes::pass_body;
+use crate::engine::passes::{Discard, pass_body};
 use crate::engine::stage::Stage;
 use octets::{Fault, Intake, Tag};
 

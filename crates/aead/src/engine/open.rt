@@ -18,8 +18,8 @@ use crate::any::{AnyAead, AnyOnePass, gcm_keys};
 use crate::engine::measure::Measured;
 use crate::engine::opening::{pass_opening, verify_reading};
 use crate::engine::passes::Finding;
-use crate::keys::{LentMul, MessageKeys};
-use crate::pass_state::PassState;
+use crate::pieces::keys::{LentMul, MessageKeys};
+use crate::pieces::pass_state::PassState;
 use gf128::{Keyed128, WideMul};
 use octets::{Fault, Intake, Nonce, Outlet};
 

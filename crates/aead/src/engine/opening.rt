@@ -8,12 +8,11 @@ ghost use Rattle.aead.specs.PassStates.{HoldsNumbers};
 ghost use Rattle.aead.specs.Code.MessageKeys.{construction_by, AreKeysOf};
 ghost use Rattle.aead.specs.Code.Findings.{BeginsOpening, PassedWhole};
 
-use crate::engine::discard::Discard;
 use crate::engine::measure::Measured;
-use crate::engine::passes::{Finding, finding_of, pass_body};
+use crate::engine::passes::{Discard, Finding, finding_of, pass_body};
 use crate::engine::stage::{Masking, Reading};
-use crate::keys::{CipherKeys, MessageKeys};
-use crate::pass_state::PassState;
+use crate::pieces::keys::{CipherKeys, MessageKeys};
+use crate::pieces::pass_state::PassState;
 use octets::{Fault, Intake, Outlet};
 
 // Decrypts, authenticates and gives a whole reading: the body of the measured length, the measured tag, and the end.

@@ -1,14 +1,29 @@
 //! One pass over a reading, piece by piece: a stage takes in each piece, which is given before the next one is taken. To
 //! measure, to verify and to write differ in their stage and their outlet.
 
-ghost use Rattle.std.specs.Prelude.{ℕ, ◌+◌, ◌<◌, ◌≤◌, List, [], length, Option, IfOk, IfSome};
+ghost use Rattle.std.specs.Prelude.{ℕ, ◌+◌, ◌<◌, ◌≤◌, List, [], length, Option, None, IfOk, IfSome};
 ghost use Rattle.aead.specs.Refusals.{DueToReading, DueToBoth};
 ghost use Rattle.aead.specs.Sealing.{Setting};
 ghost use Rattle.aead.specs.Code.Passes.{Passed};
 
 use crate::engine::measure::Measured;
 use crate::engine::stage::Stage;
-use octets::{Fault, Intake, Outlet, Tag, fill, give_all, same};
+use octets::{DeviceFault, Fault, Intake, Outlet, Tag, fill, give_all, same};
+
+// An outlet that drops every byte, and never fails.
+#[derive(Drop)]
+pub(crate) struct Discard;
+
+impl Outlet for Discard {
+    ghost taken = { λ _. None };
+
+    ghost failures = { λ _. 0 };
+
+    #[inline(always)]
+    fn give(&mut self, bytes: &[u8]) -> Result<usize, DeviceFault> {
+        Ok(bytes.len())
+    }
+}
 
 // How a reading compares with the measured one.
 #[derive(Drop)]

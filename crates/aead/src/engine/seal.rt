@@ -14,8 +14,8 @@ use crate::aead::Aead;
 use crate::any::{AnyOnePass, gcm_keys};
 use crate::engine::passes::pass_all;
 use crate::engine::stage::Masking;
-use crate::keys::{LentMul, MessageKeys};
-use crate::pass_state::PassState;
+use crate::pieces::keys::{LentMul, MessageKeys};
+use crate::pieces::pass_state::PassState;
 use octets::{Fault, Intake, Nonce, Order, Outlet, give_all};
 
 // Seals a stream in one reading, from the keys of a message and the initial state of its pass.

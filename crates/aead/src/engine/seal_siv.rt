@@ -12,12 +12,11 @@ ghost use Rattle.aead.specs.Pieces.{Repeats};
 ghost use Rattle.aead.specs.SealSivStream.{WritesAgain, SealsSivStream, SivBlames, IfBothKnown};
 
 use crate::aead::Aead;
-use crate::engine::discard::Discard;
-use crate::engine::passes::pass_all;
+use crate::engine::passes::{Discard, pass_all};
 use crate::engine::stage::{Masking, Reading};
 use crate::gcm_siv::GcmSiv;
-use crate::keys::{LentMul, MessageKeys};
-use crate::pass_state::PassState;
+use crate::pieces::keys::{LentMul, MessageKeys};
+use crate::pieces::pass_state::PassState;
 use gf128::{Keyed128, WideMul};
 use octets::{Fault, Intake, Nonce, Order, Outlet, Tag, give_all, same};
 

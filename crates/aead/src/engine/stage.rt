@@ -5,8 +5,8 @@ ghost use Rattle.octets.specs.Masked.{masked};
 ghost use Rattle.aead.specs.Sealing.{Setting};
 ghost use Rattle.aead.specs.Code.Maskings.{Task, HoldsMasking, HoldsReading, room_under, task_mask};
 
-use crate::keys::MessageKeys;
-use crate::pass_state::PassState;
+use crate::pieces::keys::MessageKeys;
+use crate::pieces::pass_state::PassState;
 use aes::KnownBlock;
 use octets::Order;
 

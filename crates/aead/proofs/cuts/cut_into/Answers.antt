@@ -1,5 +1,5 @@
 use Rattle.std.proofs.Common.{ℕ, ◌+◌, ◌-◌, List, [], ◌∷◌, ◌++◌, map, take, drop, get_or, ap, ◌∙◌}
-use Rattle.aead.proofs.Pieces.{taken, passed, completed, same_so_far}
+use Rattle.aead.proofs.CutPieces.{taken, passed, completed, same_so_far}
 use Rattle.aead.proofs.cuts.cut_into.Goals as goal
 use Rattle.aead.proofs.cuts.cut_into.Goals.{then-cut-bytes+in_ok-add, else-cut-bytes}
 

@@ -1,5 +1,5 @@
 use Rattle.std.proofs.Common.{map}
-use Rattle.aead.proofs.Pieces.{CutSoFar}
+use Rattle.aead.proofs.CutPieces.{CutSoFar}
 use Rattle.aead.proofs.cuts.cut_into.Given as goal
 
 abbrev pub invariant-loop-cut : goal.invariant-loop-cut

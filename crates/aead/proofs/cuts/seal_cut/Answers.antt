@@ -3,7 +3,7 @@ use Rattle.aead.specs.Ciphers.{setting}
 use Rattle.aead.specs.AnyCiphers.{keyed_of}
 use Rattle.aead.specs.Sealing.{Setting, Opened}
 use Rattle.aead.specs.Code.CutBytes.{AreCut}
-use Rattle.aead.proofs.Pieces.{cut_sealing}
+use Rattle.aead.proofs.CutPieces.{cut_sealing}
 use Rattle.aead.proofs.cuts.seal_cut.Goals as goal
 
 pub split_at-requires : goal.split_at-requires

@@ -1,5 +1,0 @@
-use Rattle.std.proofs.Common.{arith}
-use Rattle.aead.proofs.pass_state.PassState.low.Goals as goal
-
-pub returns : goal.returns
-returns c = omega (arith, c.from.ensures, c.from-2.ensures)

@@ -1,0 +1,39 @@
+use Rattle.std.proofs.Common.{refl, ap₂, subst, ◌∙◌}
+use Rattle.aes.specs.Cipher.{IsKey}
+use Rattle.aead.specs.Sealing.{Setting, encryption_key}
+use Rattle.aead.specs.KeyedPasses.{setting_of}
+use Rattle.aead.proofs.KeyedPasses.{serves_under}
+use Rattle.aead.proofs.pieces.key_and_nonce.KeyAndNonce.begin_siv.Goals as goal
+
+pub returns-in-Aes128GcmSiv-clause-is_key : goal.returns-in-Aes128GcmSiv-clause-is_key
+returns-in-Aes128GcmSiv-clause-is_key c =
+    subst IsKey
+    (c.short_encryption_key-key.ensures ∙ ap₂ encryption_key c.new-parts.ensures.key c.new-parts.ensures.nonce)
+    c.begin_derived.ensures.is_key
+
+pub returns-in-Aes128GcmSiv-clause-holds : goal.returns-in-Aes128GcmSiv-clause-holds
+returns-in-Aes128GcmSiv-clause-holds c =
+    let s : Setting = setting_of c.args.suite c.args.cipher.now c.args.nonce.now c.args.aad.now in
+    let key = c.new-parts.ensures.key in
+    let nonce = c.new-parts.ensures.nonce in
+    let serves = serves_under _ _ s.key s.nonce c.hash_key-hash_key.result key nonce
+    (c.hash_key-hash_key.ensures.of_block, c.hash_key-hash_key.ensures.value) in
+    c.begin_derived.ensures.holds s refl c.requires.by c.requires.long
+    (c.short_encryption_key-key.ensures ∙ ap₂ encryption_key key nonce)
+    serves refl refl c.requires.fits
+
+pub returns-in_default-clause-is_key : goal.returns-in_default-clause-is_key
+returns-in_default-clause-is_key c =
+    subst IsKey
+    (c.long_encryption_key-key.ensures ∙ ap₂ encryption_key c.new-parts.ensures.key c.new-parts.ensures.nonce)
+    c.begin_derived-in_default.ensures.is_key
+
+pub returns-in_default-clause-holds : goal.returns-in_default-clause-holds
+returns-in_default-clause-holds c =
+    let s : Setting = setting_of c.args.suite c.args.cipher.now c.args.nonce.now c.args.aad.now in
+    let key = c.new-parts.ensures.key in
+    let nonce = c.new-parts.ensures.nonce in
+    let serves = serves_under _ _ s.key s.nonce c.hash_key-hash_key.result key nonce
+    (c.hash_key-hash_key.ensures.of_block, c.hash_key-hash_key.ensures.value) in
+    c.begin_derived-in_default.ensures.holds s refl c.requires.by c.requires.long
+    (c.long_encryption_key-key.ensures ∙ ap₂ encryption_key key nonce) serves refl refl c.requires.fits

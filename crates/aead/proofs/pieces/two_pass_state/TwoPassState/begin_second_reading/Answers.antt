@@ -1,0 +1,19 @@
+use Rattle.std.proofs.Common.{sym, subst, arith, ◌∙◌}
+use Rattle.aead.specs.declared.pieces.pass_state.Sum.{Sum}
+use Rattle.aead.specs.PassStates.{IsStart}
+use Rattle.aead.proofs.pieces.two_pass_state.TwoPassState.begin_second_reading.Goals as goal
+
+pub returns : goal.returns
+returns c = λ s text by k n.
+    let tag_is = c.reading_tag-tag.ensures s text by k n.pass in
+    let next = c.second.ensures in (
+      tag_is,
+      record {
+        pass = next.pass s text n.pass n.start;
+        start = subst (λ (x : Sum). IsStart x s) (sym next.start) n.start;
+        tag_is = next.tag ∙ c.bytes.ensures.value ∙ tag_is;
+        first_is = next.first ∙ n.pass.length_is;
+        first_fits = n.pass.fits.text_fits;
+        within = omega arith;
+      },
+    )

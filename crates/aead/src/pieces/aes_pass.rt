@@ -1,0 +1,238 @@
+//! The steps of a pass over a message under AES-GCM (SP 800-38D, 7) and AES-GCM-SIV (RFC 8452, 4), by the key that its text is
+//! encrypted with.
+
+ghost use Rattle.std.specs.Prelude.{◌≡◌, ◌+◌, ◌<◌, ◌≤◌, ◌^◌, ℕ, List, [], length};
+ghost use Rattle.aead.specs.Suites.{construction_of, aad_limit};
+ghost use Rattle.aead.specs.Sealing.{Setting};
+ghost use Rattle.aead.specs.PassStates.{IsHashKey, HoldsNumbers};
+ghost use Rattle.aead.specs.KeyedPasses.{cipher_key};
+ghost use Rattle.aead.specs.Code.States.{digest_over};
+ghost use Rattle.aead.specs.Code.Masks.{hashed_by};
+ghost use Rattle.aead.specs.Code.MessageKeys.{AreAesKeys};
+ghost use Rattle.aead.specs.Code.PassSteps.{MasksPieceKnowing, TakesPiece, TakesPieceText};
+
+use crate::hashes::{BlockKeys, first_block};
+use crate::pieces::keys::{AesKeys, ExpandedKey, KeyBytes, LentMul};
+use crate::pieces::pass_state::PassState;
+use crate::rule::Rule;
+use aes::{Ctr, KnownBlock};
+use gf128::{Keyed128, TableMul};
+use octets::{Block, Nonce, Order};
+
+// The initial state for associated data, with a table that is made here, so that only this call has it on its stack.
+#[inline(never)]
+fn state_after_aad<R: Rule>(hash_key: [u8; 32], aad: &[u8]) -> PassState
+    ensures { (s : Setting) → construction_of s.suite ≡ R.Count.by → IsHashKey R.Count.by hash_key s
+        → s.aad ≡ aad.now → length aad.now ≤ aad_limit s.suite → HoldsNumbers result s [] }
+{
+    let multiplier = TableMul::of(&first_block(&hash_key));
+    PassState::initial(&BlockKeys::<TableMul, R>::by(&multiplier), hash_key, aad)
+}
+
+// The initial state for associated data. Without them no table is needed.
+pub(crate) fn initial_state<R: Rule>(hash_key: [u8; 32], aad: &[u8]) -> PassState
+    ensures { (s : Setting) → construction_of s.suite ≡ R.Count.by → IsHashKey R.Count.by hash_key s
+        → s.aad ≡ aad.now → length aad.now ≤ aad_limit s.suite → HoldsNumbers result s [] }
+{
+    if aad.is_empty() {
+        PassState::empty(hash_key)
+    } else {
+        state_after_aad::<R>(hash_key, aad)
+    }
+}
+
+// Masks and authenticates a piece with a key schedule and a multiplier.
+fn mask_expanded<R: Rule>(
+    state: &mut PassState,
+    keys: ExpandedKey,
+    nonce: &Nonce,
+    tag: &[u8; 16],
+    known: &mut KnownBlock,
+    order: Order,
+    piece: &mut [u8],
+)
+    requires { state.old.length + length piece.old ≤ 2 ^ 36 }
+    ensures masks { (s : Setting) (fed : List ℕ) → construction_of s.suite ≡ R.Count.by
+        → AreAesKeys R.Count.by R.order (AesKeys.Expanded keys.entry) s → nonce.now ≡ s.nonce
+        → MasksPieceKnowing (hashed_by order) state.old state.new known.old known.new piece.old piece.new
+        (cipher_key R.Count.by s) s tag.now fed }
+    ensures length { state.new.length ≡ state.old.length + length piece.old }
+{
+    let first = R::first_counter(nonce, tag);
+    let mut mask = Ctr::<R::Count>::at_known(keys.key, &first, state.length, known);
+    state.step(
+        &BlockKeys::<LentMul, R>::by(&keys.multiplier),
+        &mut mask,
+        order,
+        piece,
+    );
+    mask.set_known(known);
+}
+
+// Masks and authenticates a piece under the bytes of a key. Only this call has the key schedule and the table on its stack.
+#[inline(never)]
+fn mask_anew<R: Rule>(
+    state: &mut PassState,
+    bytes: KeyBytes,
+    nonce: &Nonce,
+    tag: &[u8; 16],
+    known: &mut KnownBlock,
+    order: Order,
+    piece: &mut [u8],
+)
+    requires { state.old.length + length piece.old ≤ 2 ^ 36 }
+    ensures masks { (s : Setting) (fed : List ℕ) → construction_of s.suite ≡ R.Count.by
+        → AreAesKeys R.Count.by R.order (AesKeys.Bytes bytes.entry) s → nonce.now ≡ s.nonce
+        → MasksPieceKnowing (hashed_by order) state.old state.new known.old known.new piece.old piece.new
+        (cipher_key R.Count.by s) s tag.now fed }
+    ensures length { state.new.length ≡ state.old.length + length piece.old }
+{
+    let key = bytes.schedule();
+    let multiplier = TableMul::of(&state.multiplier_key());
+    let keys = ExpandedKey {
+        key: &key,
+        multiplier: LentMul::Table(&multiplier),
+    };
+    mask_expanded::<R>(state, keys, nonce, tag, known, order, piece);
+}
+
+// Masks and authenticates a piece.
+#[inline(always)]
+pub(crate) fn mask<R: Rule>(
+    state: &mut PassState,
+    keys: AesKeys,
+    nonce: &Nonce,
+    tag: &[u8; 16],
+    known: &mut KnownBlock,
+    order: Order,
+    piece: &mut [u8],
+)
+    requires { state.old.length + length piece.old ≤ 2 ^ 36 }
+    ensures masks { (s : Setting) (fed : List ℕ) → construction_of s.suite ≡ R.Count.by
+        → AreAesKeys R.Count.by R.order keys.entry s → nonce.now ≡ s.nonce
+        → MasksPieceKnowing (hashed_by order) state.old state.new known.old known.new piece.old piece.new
+        (cipher_key R.Count.by s) s tag.now fed }
+    ensures length { state.new.length ≡ state.old.length + length piece.old }
+{
+    match keys {
+        AesKeys::Expanded(keys) => mask_expanded::<R>(state, keys, nonce, tag, known, order, piece),
+        AesKeys::Bytes(bytes) => mask_anew::<R>(state, bytes, nonce, tag, known, order, piece),
+    }
+}
+
+// Authenticates a piece with a table that is made here. The hash needs no key schedule.
+#[inline(never)]
+fn take_anew<R: Rule>(state: &mut PassState, piece: &[u8])
+    requires { state.old.length + length piece.now < 2 ^ 64 }
+    ensures takes { (s : Setting) (bytes : List ℕ) → construction_of s.suite ≡ R.Count.by
+        → TakesPiece state.old state.new piece.now s bytes }
+    ensures length { state.new.length ≡ state.old.length + length piece.now }
+{
+    let multiplier = TableMul::of(&state.multiplier_key());
+    state.take(&BlockKeys::<TableMul, R>::by(&multiplier), piece);
+}
+
+// Authenticates a piece.
+#[inline(always)]
+pub(crate) fn take<R: Rule>(state: &mut PassState, keys: AesKeys, piece: &[u8])
+    requires { state.old.length + length piece.now < 2 ^ 64 }
+    ensures takes { (s : Setting) (bytes : List ℕ) → construction_of s.suite ≡ R.Count.by
+        → AreAesKeys R.Count.by R.order keys.entry s → TakesPiece state.old state.new piece.now s bytes }
+    ensures length { state.new.length ≡ state.old.length + length piece.now }
+{
+    match keys {
+        AesKeys::Expanded(keys) => state.take(
+            &BlockKeys::<LentMul, R>::by(&keys.multiplier),
+            piece,
+        ),
+        AesKeys::Bytes(_) => take_anew::<R>(state, piece),
+    }
+}
+
+// Authenticates the text of a piece of a ciphertext with a key schedule and a multiplier.
+fn take_text_expanded<R: Rule>(
+    state: &mut PassState,
+    keys: ExpandedKey,
+    nonce: &Nonce,
+    tag: &[u8; 16],
+    piece: &[u8],
+)
+    requires { state.old.length + length piece.now ≤ 2 ^ 36 }
+    ensures { (s : Setting) (fed : List ℕ) → construction_of s.suite ≡ R.Count.by
+        → AreAesKeys R.Count.by R.order (AesKeys.Expanded keys.entry) s → nonce.now ≡ s.nonce
+        → TakesPieceText state.old state.new piece.now s tag.now fed }
+{
+    let first = R::first_counter(nonce, tag);
+    let mut mask = Ctr::<R::Count>::at_known(keys.key, &first, state.length, &KnownBlock::none());
+    state.take_text(
+        &BlockKeys::<LentMul, R>::by(&keys.multiplier),
+        &mut mask,
+        piece,
+    );
+}
+
+// Authenticates the text of a piece of a ciphertext under the bytes of a key. Only this call has the key schedule and the table on
+// its stack.
+#[inline(never)]
+fn take_text_anew<R: Rule>(
+    state: &mut PassState,
+    bytes: KeyBytes,
+    nonce: &Nonce,
+    tag: &[u8; 16],
+    piece: &[u8],
+)
+    requires { state.old.length + length piece.now ≤ 2 ^ 36 }
+    ensures { (s : Setting) (fed : List ℕ) → construction_of s.suite ≡ R.Count.by
+        → AreAesKeys R.Count.by R.order (AesKeys.Bytes bytes.entry) s → nonce.now ≡ s.nonce
+        → TakesPieceText state.old state.new piece.now s tag.now fed }
+{
+    let key = bytes.schedule();
+    let multiplier = TableMul::of(&state.multiplier_key());
+    let keys = ExpandedKey {
+        key: &key,
+        multiplier: LentMul::Table(&multiplier),
+    };
+    take_text_expanded::<R>(state, keys, nonce, tag, piece);
+}
+
+// Authenticates the text of a piece of a ciphertext.
+#[inline(always)]
+pub(crate) fn take_text<R: Rule>(
+    state: &mut PassState,
+    keys: AesKeys,
+    nonce: &Nonce,
+    tag: &[u8; 16],
+    piece: &[u8],
+)
+    requires { state.old.length + length piece.now ≤ 2 ^ 36 }
+    ensures { (s : Setting) (fed : List ℕ) → construction_of s.suite ≡ R.Count.by
+        → AreAesKeys R.Count.by R.order keys.entry s → nonce.now ≡ s.nonce
+        → TakesPieceText state.old state.new piece.now s tag.now fed }
+{
+    match keys {
+        AesKeys::Expanded(keys) => take_text_expanded::<R>(state, keys, nonce, tag, piece),
+        AesKeys::Bytes(bytes) => take_text_anew::<R>(state, bytes, nonce, tag, piece),
+    }
+}
+
+// Returns the hash of what was authenticated, with a table that is made here.
+#[inline(never)]
+fn digest_anew<R: Rule>(state: &PassState) -> Block
+    ensures { (s : Setting) (bytes : List ℕ) → construction_of s.suite ≡ R.Count.by → HoldsNumbers state.now s bytes
+        → result ≡ digest_over s bytes }
+{
+    let multiplier = TableMul::of(&state.multiplier_key());
+    state.digest(&BlockKeys::<TableMul, R>::by(&multiplier))
+}
+
+// Returns the hash of what was authenticated, of which the tag is made.
+#[inline(always)]
+pub(crate) fn digest<R: Rule>(state: &PassState, keys: AesKeys) -> Block
+    ensures { (s : Setting) (bytes : List ℕ) → construction_of s.suite ≡ R.Count.by
+        → AreAesKeys R.Count.by R.order keys.entry s → HoldsNumbers state.now s bytes → result ≡ digest_over s bytes }
+{
+    match keys {
+        AesKeys::Expanded(keys) => state.digest(&BlockKeys::<LentMul, R>::by(&keys.multiplier)),
+        AesKeys::Bytes(_) => digest_anew::<R>(state),
+    }
+}
