@@ -7,16 +7,16 @@ use Rattle.aes.specs.Cipher.{cipher}
 use Rattle.gf128.specs.Orders.{Straight, Reversed, Serves}
 use Rattle.gf128.specs.Code.States as gf128
 use Rattle.aead.specs.declared.pieces.pass_state.PassState.{PassState}
-use Rattle.aead.specs.declared.pieces.pass_state.Sum.{Sum}
+use Rattle.aead.specs.declared.pieces.pass_state.SumWords.{SumWords}
 use Rattle.aead.specs.Suites.{Construction, ByChaCha, ByGcm, ByGcmSiv, construction_of}
 use Rattle.aead.specs.Sealing.{Setting, Fits, mask_of, poly_key, hash_key, j0, authentication_key}
 
--- k is the key of the hash of a message, in 32 bytes: the one-time key of Poly1305; the key of GHASH and the cipher of J0; or
--- the key of a multiplier that serves POLYVAL, and zeros
-abbrev pub IsHashKey : Construction → List ℕ → Setting → Type 0
-IsHashKey ByChaCha k s = k ≡ poly_key s.key s.nonce
-IsHashKey ByGcm k s = (take 16 k ≡ hash_key s.key) × (drop 16 k ≡ cipher s.key (j0 s.nonce))
-IsHashKey ByGcmSiv k s = Serves Reversed (authentication_key s.key s.nonce) (take 16 k) × (drop 16 k ≡ replicate 16 0)
+-- k is the secret that the state of a message holds, 32 bytes: the one-time key of Poly1305; the key of GHASH and the cipher of
+-- J0; or the key of a multiplier that serves POLYVAL, and zeros
+abbrev pub IsMessageSecret : Construction → List ℕ → Setting → Type 0
+IsMessageSecret ByChaCha k s = k ≡ poly_key s.key s.nonce
+IsMessageSecret ByGcm k s = (take 16 k ≡ hash_key s.key) × (drop 16 k ≡ cipher s.key (j0 s.nonce))
+IsMessageSecret ByGcmSiv k s = Serves Reversed (authentication_key s.key s.nonce) (take 16 k) × (drop 16 k ≡ replicate 16 0)
 
 -- low and high are the sum of the hash over the whole blocks of m: 128 bits, and the bits above them, of which GHASH and POLYVAL
 -- have none. For POLYVAL only the fact is stated (`∥ .. ∥₁`).
@@ -28,7 +28,7 @@ IsSumOf ByGcmSiv low high s m = ∥ gf128.IsSum Reversed (authentication_key s.k
 -- the numbers are the state after the associated data and these bytes: those after the last whole block, with zeros after them,
 -- and the sum over the blocks
 pub record HoldsNumbers (n : PassState) (s : Setting) (bytes : List ℕ) : Type 0 where
-  pub hash_key_is : IsHashKey (construction_of s.suite) n.hash_key s
+  pub secret_is : IsMessageSecret (construction_of s.suite) n.message_secret s
   pub sum_is : IsSumOf (construction_of s.suite) (n.low + n.middle * 2 ^ 64) n.high s (pad16 s.aad ++ bytes)
   pub rest_is :
       take (n.length % 16) n.rest ≡ drop (length (pad16 s.aad ++ bytes) / 16 * 16) (pad16 s.aad ++ bytes)
@@ -43,17 +43,17 @@ abbrev pub HoldsState : PassState → Setting → List ℕ → Type 0
 HoldsState n s text = (tag : List ℕ) → HoldsNumbers n s (masked (mask_of s tag) 0 text)
 
 -- n is the sum over the padded associated data, with which a pass begins
-abbrev pub IsStart : Sum → Setting → Type 0
+abbrev pub IsStart : SumWords → Setting → Type 0
 IsStart n s = IsSumOf (construction_of s.suite) (n.low + n.middle * 2 ^ 64) n.high s (pad16 s.aad)
 
 -- the sum that is 0
-abbrev pub zero_sum : Sum
+abbrev pub zero_sum : SumWords
 zero_sum = record { low = 0; middle = 0; high = 0 }
 
 -- the state whose numbers are all zeros
 abbrev pub zero_state : PassState
 zero_state = record {
-  hash_key = replicate 32 0;
+  message_secret = replicate 32 0;
   rest = replicate 16 0;
   low = 0;
   middle = 0;

@@ -28,7 +28,7 @@ pub record HoldsSealer (sealer : Sealer) (s : Setting) (text : List ℕ) : Type 
 -- k holds the derived keys of a message of AES-GCM-SIV, and its nonce
 pub record AreKeys (k : SivKeys) (s : Setting) : Type 0 where
   pub derived : AreDerived k.derived s
-  pub multiplier_is : key_of k.multiplier ≡ k.derived.hash_key
+  pub multiplier_is : key_of k.multiplier ≡ k.derived.multiplier_key
   pub nonce_is : k.nonce ≡ s.nonce
 
 -- the state of two readings or passes whose numbers are all zeros

@@ -11,7 +11,7 @@ ghost use Rattle.aead.specs.Code.MessageKeys.{AreKeysOf, lent_key};
 
 use crate::aead::Aead;
 use crate::chacha_poly::{ChaChaPoly, one_time_key};
-use crate::gcm::{Gcm, hash_keys};
+use crate::gcm::{Gcm, message_secret};
 use crate::gcm_siv::GcmSiv;
 use crate::hashes::PolyKeys;
 use crate::pieces::aes_pass;
@@ -86,7 +86,7 @@ impl AnyOnePass {
             }
             AnyOnePass::Gcm(cipher) => {
                 let (key, ghash_key, _) = cipher.keys();
-                aes_pass::initial_state::<GhashOrder>(hash_keys(key, ghash_key, nonce), aad)
+                aes_pass::initial_state::<GhashOrder>(message_secret(key, ghash_key, nonce), aad)
             }
         }
     }

@@ -88,7 +88,7 @@ impl ChaChaPoly {
 pub(crate) fn one_time_key(key: &Key32, nonce: &Nonce) -> [u8; 32]
     ensures { result ≡ poly_key key.now nonce.now }
 {
-    first_half(&block(key, 0, nonce))
+    first_32(&block(key, 0, nonce))
 }
 
 // Returns the mask of a message, after its first `done` bytes.
@@ -110,7 +110,7 @@ pub(crate) fn hash_as_tag(digest: &Block) -> Tag
 }
 
 // Returns the first 32 bytes.
-pub(crate) fn first_half(start: &[u8]) -> [u8; 32]
+pub(crate) fn first_32(start: &[u8]) -> [u8; 32]
     requires { 32 ≤ length start.now }
     ensures { result ≡ take 32 start.now }
 {
@@ -178,7 +178,7 @@ impl<'a> OnePass for BufferedChaCha<'a> {
 
     // The one-time key is at the start of the block with counter 0 (RFC 8439, 2.6).
     fn hash(&self) -> Poly {
-        Poly::new(&first_half(self.start))
+        Poly::new(&first_32(self.start))
     }
 
     fn tag(&self, digest: &Block) -> Tag {

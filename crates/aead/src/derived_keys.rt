@@ -7,7 +7,7 @@ ghost use Rattle.gf128.specs.Polyval.{IsReversedMulX};
 ghost use Rattle.aead.specs.Suites.{construction_of, key_length, ByGcmSiv};
 ghost use Rattle.aead.specs.Sealing.{key_part, authentication_key, encryption_key};
 
-use crate::gcm_siv::{GcmSiv, hash_keys};
+use crate::gcm_siv::{GcmSiv, message_secret};
 use crate::pieces::aes_pass;
 use crate::pieces::keys::{AesKeys, CipherKeys, ExpandedKey, LentMul, MessageKeys};
 use crate::pieces::pass_state::PassState;
@@ -116,7 +116,7 @@ pub(crate) fn long_encryption_key(parts: &KeyParts) -> [u8; 32]
 }
 
 // Returns the key of POLYVAL's multiplier in GHASH's field (RFC 8452, appendix A). POLYVAL's key is parts 0 and 1 (RFC 8452, 4).
-pub(crate) fn hash_key(parts: &KeyParts) -> Block
+pub(crate) fn multiplier_key(parts: &KeyParts) -> Block
     ensures value { IsReversedMulX (authentication_key parts.now.key.now parts.now.nonce.now) result }
     ensures of_block { IsBlock (authentication_key parts.now.key.now parts.now.nonce.now) }
 {
@@ -128,7 +128,7 @@ pub(crate) fn hash_key(parts: &KeyParts) -> Block
 #[derive(Drop)]
 pub(crate) struct DerivedKeys {
     // The key of POLYVAL's multiplier in GHASH's field.
-    pub(crate) hash_key: Block,
+    pub(crate) multiplier_key: Block,
     pub(crate) encryption: AesKey,
 }
 
@@ -144,17 +144,17 @@ impl DerivedKeys {
         requires by_gcm_siv { construction_of suite ≡ ByGcmSiv }
         requires long { length key.now ≡ key_length suite }
         ensures block { IsBlock (authentication_key key.now nonce.now) }
-        ensures hash_key { IsReversedMulX (authentication_key key.now nonce.now) result.hash_key }
+        ensures multiplier_key { IsReversedMulX (authentication_key key.now nonce.now) result.multiplier_key }
         ensures encryption { result.encryption ≡ encryption_key key.now nonce.now }
     {
         let parts = KeyParts::new(key, nonce);
-        let hash_key = hash_key(&parts);
+        let multiplier_key = multiplier_key(&parts);
         let encryption = match suite {
             Suite::Aes128GcmSiv => AesKey::expanded(&short_encryption_key(&parts)),
             _ => AesKey::expanded(&long_encryption_key(&parts)),
         };
         DerivedKeys {
-            hash_key,
+            multiplier_key,
             encryption,
         }
     }
@@ -166,7 +166,7 @@ impl DerivedKeys {
         multiplier: LentMul<'a>,
     ) -> MessageKeys<'a>
         ensures by { construction_by result.cipher ≡ ByGcmSiv }
-        ensures keys { (s : Setting) → AreDerived self.now s → lent_key multiplier.entry ≡ self.now.hash_key
+        ensures keys { (s : Setting) → AreDerived self.now s → lent_key multiplier.entry ≡ self.now.multiplier_key
             → nonce.now ≡ s.nonce → AreKeysOf result s }
     {
         let key = &self.encryption;
@@ -181,7 +181,7 @@ impl DerivedKeys {
         ensures { (s : Setting) → AreDerived self.now s → s.aad ≡ aad.now → length aad.now ≤ aad_limit s.suite
             → HoldsNumbers result s [] }
     {
-        aes_pass::initial_state::<PolyvalOrder>(hash_keys(&self.hash_key), aad)
+        aes_pass::initial_state::<PolyvalOrder>(message_secret(&self.multiplier_key), aad)
     }
 }
 
@@ -209,7 +209,7 @@ impl SivKeys {
     {
         let derived = cipher.derive(nonce);
         SivKeys {
-            multiplier: TableMul::of(&derived.hash_key),
+            multiplier: TableMul::of(&derived.multiplier_key),
             derived,
             nonce: *nonce,
         }

@@ -6,7 +6,7 @@ ghost use Rattle.aes.specs.Cipher.{cipher, IsKey};
 ghost use Rattle.aead.specs.declared.suite.Suite.{Suite};
 ghost use Rattle.aead.specs.Suites.{construction_of, is_one_pass, key_length, text_limit, aad_limit, ByGcm};
 ghost use Rattle.aead.specs.Sealing.{Setting, Opened, hash_key, j0, tag_over};
-ghost use Rattle.aead.specs.PassStates.{IsHashKey};
+ghost use Rattle.aead.specs.PassStates.{IsMessageSecret};
 ghost use Rattle.aead.specs.Code.States.{digest_over};
 ghost use Rattle.aead.specs.Ciphers.{Keyed, setting};
 ghost use Rattle.aead.specs.InPlace.{OpensInPlace};
@@ -97,14 +97,15 @@ pub fn hash_subkey(key: &AesKey) -> Block
     key.encrypt_in_registers(&Block::new([0; 16]))
 }
 
-// Returns the keys of the hash of a message: that of GHASH, and the block that the tag is masked with.
-pub(crate) fn hash_keys(key: &AesKey, ghash_key: &Block, nonce: &Nonce) -> [u8; 32]
+// Returns the secret that the state of a message holds: the key of GHASH, and the block that the tag is masked with.
+pub(crate) fn message_secret(key: &AesKey, ghash_key: &Block, nonce: &Nonce) -> [u8; 32]
     requires { ghash_key.now ≡ hash_key key.now }
-    ensures { (s : Setting) → s.key ≡ key.now → s.nonce ≡ nonce.now → IsHashKey ByGcm result s }
+    ensures { (s : Setting) → s.key ≡ key.now → s.nonce ≡ nonce.now → IsMessageSecret ByGcm result s }
 {
     joined(
         ghash_key.bytes(),
-        key.encrypt_in_registers(&counter_block(nonce, 1)).bytes(),
+        key.encrypt_in_registers(&nonce_and_counter(nonce, 1))
+            .bytes(),
     )
 }
 
@@ -119,7 +120,7 @@ pub(crate) fn masked_tag(mask: &Block, digest: &Block) -> Tag
 
 // Returns the block of the nonce and a counter (SP 800-38D, 7.1). The last word is written as one, since the cipher reads words.
 #[inline(always)]
-pub(crate) fn counter_block(nonce: &Nonce, counter: u8) -> Block
+pub(crate) fn nonce_and_counter(nonce: &Nonce, counter: u8) -> Block
     ensures value { result ≡ nonce.now ++ 0 ∷ 0 ∷ 0 ∷ counter ∷ [] }
     ensures nonce_length { length nonce.now ≡ 12 }
 {
@@ -176,7 +177,7 @@ impl<'c, 'k, M: Multiply + Copy> OnePass for NoncedGcm<'c, 'k, M> {
     // The first counter block is inc32(J0) (SP 800-38D, 7.1).
     #[inline(always)]
     fn mask(&self) -> CtrBe<'k> {
-        CtrBe::new(self.cipher.key, &counter_block(self.nonce, 2))
+        CtrBe::new(self.cipher.key, &nonce_and_counter(self.nonce, 2))
     }
 
     #[inline(always)]
@@ -187,7 +188,7 @@ impl<'c, 'k, M: Multiply + Copy> OnePass for NoncedGcm<'c, 'k, M> {
     #[inline(always)]
     fn tag(&self, digest: &Block) -> Tag {
         let key = self.cipher.key;
-        let mask = key.encrypt_in_registers(&counter_block(self.nonce, 1));
+        let mask = key.encrypt_in_registers(&nonce_and_counter(self.nonce, 1));
         masked_tag(&mask, digest)
     }
 

@@ -11,7 +11,7 @@ ghost use Rattle.aead.specs.declared.suite.Suite.{Suite};
 ghost use Rattle.aead.specs.Suites.{construction_of, key_length, text_limit, aad_limit, ByGcmSiv};
 ghost use Rattle.aead.specs.Sealing.{Setting, Opened, authentication_key, encryption_key, counter_block};
 ghost use Rattle.aead.specs.Sealing.{tag_block, tag_over};
-ghost use Rattle.aead.specs.PassStates.{IsHashKey};
+ghost use Rattle.aead.specs.PassStates.{IsMessageSecret};
 ghost use Rattle.aead.specs.Ciphers.{Keyed, setting};
 ghost use Rattle.aead.specs.InPlace.{OpensInPlace};
 ghost use Rattle.aead.specs.Code.States.{MadeByCounter, digest_over};
@@ -65,7 +65,7 @@ impl GcmSiv {
     // Derives the keys of a message.
     pub(crate) fn derive(&self, nonce: &Nonce) -> DerivedKeys
         ensures block { IsBlock (authentication_key self.now.key nonce.now) }
-        ensures hash_key { IsReversedMulX (authentication_key self.now.key nonce.now) result.hash_key }
+        ensures multiplier_key { IsReversedMulX (authentication_key self.now.key nonce.now) result.multiplier_key }
         ensures encryption { result.encryption ≡ encryption_key self.now.key nonce.now }
         ensures by { construction_of self.now.suite ≡ ByGcmSiv }
     {
@@ -84,7 +84,7 @@ pub(crate) fn counter_block(tag: &[u8; 16]) -> [u8; 16]
 
 // Returns the mask of the message with this tag (RFC 8452, 4).
 #[inline(always)]
-pub(crate) fn tag_mask<'k>(encryption: &'k AesKey, tag: &Tag) -> CtrLe<'k>
+pub(crate) fn mask_of_tag<'k>(encryption: &'k AesKey, tag: &Tag) -> CtrLe<'k>
     ensures { (s : Setting) → construction_of s.suite ≡ ByGcmSiv
         → encryption.now ≡ encryption_key s.key s.nonce
         → MadeByCounter ByGcmSiv up_le result s tag.now 0 }
@@ -92,12 +92,12 @@ pub(crate) fn tag_mask<'k>(encryption: &'k AesKey, tag: &Tag) -> CtrLe<'k>
     CtrLe::new(encryption, &Block::new(counter_block(tag.bytes())))
 }
 
-// Returns the hash key as a state holds it: the key of POLYVAL's multiplier, and zeros.
-pub(crate) fn hash_keys(hash_key: &Block) -> [u8; 32]
-    ensures { (s : Setting) → Serves Reversed (authentication_key s.key s.nonce) hash_key.now
-        → IsHashKey ByGcmSiv result s }
+// Returns the secret that the state of a message holds: the key of POLYVAL's multiplier, and zeros.
+pub(crate) fn message_secret(multiplier_key: &Block) -> [u8; 32]
+    ensures { (s : Setting) → Serves Reversed (authentication_key s.key s.nonce) multiplier_key.now
+        → IsMessageSecret ByGcmSiv result s }
 {
-    joined(hash_key.bytes(), &[0; 16])
+    joined(multiplier_key.bytes(), &[0; 16])
 }
 
 // Returns the block that is encrypted to the tag (RFC 8452, 4).
@@ -134,12 +134,12 @@ impl Aead for GcmSiv {
 
     fn seal_fitting(&self, nonce: &Nonce, aad: &[u8], text: &mut [u8]) -> Tag {
         let keys = self.derive(nonce);
-        let multiplier = TableMul::of(&keys.hash_key);
+        let multiplier = TableMul::of(&keys.multiplier_key);
         let mut authenticator = Authenticator::empty(Polyval::with(&multiplier));
         authenticator.begin(aad);
         authenticator.update(text);
         let tag = encrypted_tag(&keys.encryption, nonce, &authenticator.digest());
-        tag_mask(&keys.encryption, &tag).apply_to(text);
+        mask_of_tag(&keys.encryption, &tag).apply_to(text);
         tag
     }
 
@@ -151,9 +151,9 @@ impl Aead for GcmSiv {
         tag: &Tag,
     ) -> Result<(), Fault> {
         let keys = self.derive(nonce);
-        let multiplier = TableMul::of(&keys.hash_key);
+        let multiplier = TableMul::of(&keys.multiplier_key);
         let given = tag.bytes();
-        let mut mask = tag_mask(&keys.encryption, tag);
+        let mut mask = mask_of_tag(&keys.encryption, tag);
         let mut authenticator = Authenticator::empty(Polyval::with(&multiplier));
         authenticator.begin(aad);
         step(Order::MaskFirst, &mut mask, &mut authenticator, body);
@@ -161,7 +161,7 @@ impl Aead for GcmSiv {
         if same(found.bytes(), given) {
             return Ok(());
         }
-        tag_mask(&keys.encryption, tag).apply_to(body);
+        mask_of_tag(&keys.encryption, tag).apply_to(body);
         Err(Fault::TagMismatch)
     }
 }

@@ -7,7 +7,7 @@ ghost use Rattle.octets.specs.Ends.{hashed_of};
 ghost use Rattle.gf128.specs.Orders.{Serves};
 ghost use Rattle.aead.specs.Suites.{ByChaCha, construction_of};
 ghost use Rattle.aead.specs.Sealing.{Setting, Fits};
-ghost use Rattle.aead.specs.PassStates.{IsHashKey, IsSumOf};
+ghost use Rattle.aead.specs.PassStates.{IsMessageSecret, IsSumOf};
 ghost use Rattle.aead.specs.Code.States.{HeldByPoly, HeldByBlocks, block_key, digest_over};
 
 use crate::derived_keys::joined;
@@ -132,10 +132,10 @@ pub(crate) trait HashKeys {
     // The keys are those of a message.
     ghost serves: { Self → Setting → Type 0 };
 
-    // Makes the hash of a text again from the bytes of its keys, its sum over the whole blocks, and the bytes after them.
-    fn resumed(&self, hash_key: &[u8; 32], low: u128, high: u64, rest: &[u8]) -> Self::Hash
+    // Makes the hash of a text again from the secret of its message, its sum over the whole blocks, and the bytes after them.
+    fn resumed(&self, secret: &[u8; 32], low: u128, high: u64, rest: &[u8]) -> Self::Hash
         requires { length rest.now < 16 }
-        ensures { (s : Setting) (m : List ℕ) → serves self.now s → IsHashKey (construction_of s.suite) hash_key.now s
+        ensures { (s : Setting) (m : List ℕ) → serves self.now s → IsMessageSecret (construction_of s.suite) secret.now s
             → IsSumOf (construction_of s.suite) low high s m → rest.now ≡ drop (length m / 16 * 16) m
             → Self.Hash.held result s m };
 }
@@ -150,8 +150,8 @@ impl HashKeys for PolyKeys {
     ghost serves = { λ _ s. construction_of s.suite ≡ ByChaCha };
 
     #[inline(always)]
-    fn resumed(&self, hash_key: &[u8; 32], low: u128, high: u64, rest: &[u8]) -> Poly {
-        Poly::resumed(hash_key, low, high, rest)
+    fn resumed(&self, secret: &[u8; 32], low: u128, high: u64, rest: &[u8]) -> Poly {
+        Poly::resumed(secret, low, high, rest)
     }
 }
 
@@ -184,7 +184,7 @@ impl<'a, M: Multiply, R: Rule> HashKeys for BlockKeys<'a, M, R> {
     #[inline(always)]
     fn resumed(
         &self,
-        _hash_key: &[u8; 32],
+        _secret: &[u8; 32],
         low: u128,
         _high: u64,
         rest: &[u8],

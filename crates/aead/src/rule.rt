@@ -7,7 +7,7 @@ ghost use Rattle.gf128.specs.Orders.{Serves, hash_by};
 ghost use Rattle.gf128.specs.Code.States.{IsSum};
 ghost use Rattle.aead.specs.Suites.{construction_of};
 ghost use Rattle.aead.specs.Sealing.{Setting, Fits};
-ghost use Rattle.aead.specs.PassStates.{IsHashKey, IsSumOf};
+ghost use Rattle.aead.specs.PassStates.{IsMessageSecret, IsSumOf};
 ghost use Rattle.aead.specs.Code.States.{block_key, first_counter, digest_over};
 ghost use Rattle.aead.specs.Code.Rules.{gcm_serves, gcm_sums, gcm_is_sum, siv_serves, siv_sums, siv_is_sum};
 
@@ -34,8 +34,8 @@ pub(crate) trait Rule: HashOrder {
             → aad_length ≡ length s.aad → bytes_length ≡ length m
             → hash_by Self.order (block_key Self.Count.by s) (pad16 (pad16 s.aad ++ m) ++ result) ≡ digest_over s m };
 
-    // The hash key that a state holds begins with a key of the multiplier.
-    ghost serves: { (s : Setting) (k : List ℕ) → IsHashKey Self.Count.by k s
+    // The secret that a state holds begins with a key of the multiplier.
+    ghost serves: { (s : Setting) (k : List ℕ) → IsMessageSecret Self.Count.by k s
         → Serves Self.order (block_key Self.Count.by s) (take 16 k) };
 
     // The sum that a state holds is the sum of the hash.
@@ -59,7 +59,7 @@ impl Rule for GhashOrder {
 
     #[inline(always)]
     fn first_counter(nonce: &Nonce, _tag: &[u8; 16]) -> Block {
-        gcm::counter_block(nonce, 2)
+        gcm::nonce_and_counter(nonce, 2)
     }
 
     fn lengths(aad_length: u64, bytes_length: u64) -> [u8; 16] {

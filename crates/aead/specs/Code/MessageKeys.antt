@@ -48,4 +48,4 @@ pub record AreKeysOf (k : MessageKeys) (s : Setting) : Type 0 where
 pub record AreDerived (k : DerivedKeys) (s : Setting) : Type 0 where
   pub by : construction_of s.suite ≡ ByGcmSiv
   pub encryption_is : k.encryption ≡ encryption_key s.key s.nonce
-  pub hash_key_is : Serves Reversed (authentication_key s.key s.nonce) k.hash_key
+  pub multiplier_key_is : Serves Reversed (authentication_key s.key s.nonce) k.multiplier_key

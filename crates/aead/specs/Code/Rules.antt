@@ -7,14 +7,14 @@ use Rattle.gf128.specs.Orders.{Straight, Reversed, Serves}
 use Rattle.gf128.specs.Code.States.{IsSum}
 use Rattle.aead.specs.Suites.{ByGcm, ByGcmSiv}
 use Rattle.aead.specs.Sealing.{Setting}
-use Rattle.aead.specs.PassStates.{IsHashKey, IsSumOf}
+use Rattle.aead.specs.PassStates.{IsMessageSecret, IsSumOf}
 use Rattle.aead.specs.Code.States.{block_key}
 
 -- the hash key that a state holds begins with a key of the multiplier
-pub gcm_serves : (s : Setting) (k : List ℕ) → IsHashKey ByGcm k s → Serves Straight (block_key ByGcm s) (take 16 k)
+pub gcm_serves : (s : Setting) (k : List ℕ) → IsMessageSecret ByGcm k s → Serves Straight (block_key ByGcm s) (take 16 k)
 gcm_serves s k h = h.0
 
-pub siv_serves : (s : Setting) (k : List ℕ) → IsHashKey ByGcmSiv k s
+pub siv_serves : (s : Setting) (k : List ℕ) → IsMessageSecret ByGcmSiv k s
     → Serves Reversed (block_key ByGcmSiv s) (take 16 k)
 siv_serves s k h = h.0
 

@@ -184,7 +184,7 @@ pub fn open_stream<I: Intake, J: Intake, K: Intake, O: Outlet>(
         AnyAead::Siv(cipher) => {
             let derived = cipher.derive(nonce);
             let state = derived.initial_state(aad);
-            let multiplier = WideMul::of(&derived.hash_key);
+            let multiplier = WideMul::of(&derived.multiplier_key);
             let keys = derived.message_keys(nonce, LentMul::Wide(&multiplier));
             open_over(&keys, &state, measure, verify, write, out)
         }

@@ -71,7 +71,7 @@ fn write_again<J: Intake, O: Outlet>(
 }
 
 // Seals a stream in two readings, from the keys of a message and the initial state of both passes.
-fn seal_over<I: Intake, J: Intake, O: Outlet>(
+fn seal_in_two<I: Intake, J: Intake, O: Outlet>(
     keys: &MessageKeys,
     state: &PassState,
     first: &mut I,
@@ -144,7 +144,7 @@ pub fn seal_siv_stream<I: Intake, J: Intake, O: Outlet>(
     cipher.suite().check_aad(aad)?;
     let derived = cipher.derive(nonce);
     let state = derived.initial_state(aad);
-    let multiplier = WideMul::of(&derived.hash_key);
+    let multiplier = WideMul::of(&derived.multiplier_key);
     let keys = derived.message_keys(nonce, LentMul::Wide(&multiplier));
-    seal_over(&keys, &state, first, second, out)
+    seal_in_two(&keys, &state, first, second, out)
 }

@@ -4,7 +4,7 @@
 ghost use Rattle.std.specs.Prelude.{◌≡◌, ◌+◌, ◌<◌, ◌≤◌, ◌^◌, ℕ, List, [], length};
 ghost use Rattle.aead.specs.Suites.{construction_of, aad_limit};
 ghost use Rattle.aead.specs.Sealing.{Setting};
-ghost use Rattle.aead.specs.PassStates.{IsHashKey, HoldsNumbers};
+ghost use Rattle.aead.specs.PassStates.{IsMessageSecret, HoldsNumbers};
 ghost use Rattle.aead.specs.KeyedPasses.{cipher_key};
 ghost use Rattle.aead.specs.Code.States.{digest_over};
 ghost use Rattle.aead.specs.Code.Masks.{hashed_by};
@@ -21,23 +21,23 @@ use octets::{Block, Nonce, Order};
 
 // The initial state for associated data, with a table that is made here, so that only this call has it on its stack.
 #[inline(never)]
-fn state_after_aad<R: Rule>(hash_key: [u8; 32], aad: &[u8]) -> PassState
-    ensures { (s : Setting) → construction_of s.suite ≡ R.Count.by → IsHashKey R.Count.by hash_key s
+fn state_after_aad<R: Rule>(secret: [u8; 32], aad: &[u8]) -> PassState
+    ensures { (s : Setting) → construction_of s.suite ≡ R.Count.by → IsMessageSecret R.Count.by secret s
         → s.aad ≡ aad.now → length aad.now ≤ aad_limit s.suite → HoldsNumbers result s [] }
 {
-    let multiplier = TableMul::of(&first_block(&hash_key));
-    PassState::initial(&BlockKeys::<TableMul, R>::by(&multiplier), hash_key, aad)
+    let multiplier = TableMul::of(&first_block(&secret));
+    PassState::initial(&BlockKeys::<TableMul, R>::by(&multiplier), secret, aad)
 }
 
 // The initial state for associated data. Without them no table is needed.
-pub(crate) fn initial_state<R: Rule>(hash_key: [u8; 32], aad: &[u8]) -> PassState
-    ensures { (s : Setting) → construction_of s.suite ≡ R.Count.by → IsHashKey R.Count.by hash_key s
+pub(crate) fn initial_state<R: Rule>(secret: [u8; 32], aad: &[u8]) -> PassState
+    ensures { (s : Setting) → construction_of s.suite ≡ R.Count.by → IsMessageSecret R.Count.by secret s
         → s.aad ≡ aad.now → length aad.now ≤ aad_limit s.suite → HoldsNumbers result s [] }
 {
     if aad.is_empty() {
-        PassState::empty(hash_key)
+        PassState::empty(secret)
     } else {
-        state_after_aad::<R>(hash_key, aad)
+        state_after_aad::<R>(secret, aad)
     }
 }
 

@@ -12,7 +12,7 @@ ghost use Rattle.aead.specs.Pieces.{MasksByBytes};
 ghost use Rattle.aead.specs.Code.MessageKeys.{construction_by, AreKeysOf};
 
 use crate::chacha_poly::one_time_key;
-use crate::derived_keys::{KeyParts, hash_key, long_encryption_key, short_encryption_key};
+use crate::derived_keys::{KeyParts, long_encryption_key, multiplier_key, short_encryption_key};
 use crate::gcm::hash_subkey;
 use crate::hashes::PolyKeys;
 use crate::pieces::aes_pass;
@@ -132,18 +132,18 @@ impl KeyAndNonce {
     {
         *self = KeyAndNonce::of(key, nonce);
         *state = aes_pass::initial_state::<GhashOrder>(
-            gcm::hash_keys(cipher, ghash_key, nonce),
+            gcm::message_secret(cipher, ghash_key, nonce),
             aad,
         );
     }
 
-    // Begins a pass under AES-GCM-SIV, from the encryption key and the hash key of the message.
+    // Begins a pass under AES-GCM-SIV, from the encryption key of the message and the key of POLYVAL's multiplier.
     fn begin_derived(
         &mut self,
         state: &mut PassState,
         suite: Suite,
         key: &[u8],
-        hash_key: &Block,
+        multiplier_key: &Block,
         nonce: &Nonce,
         aad: &[u8],
     )
@@ -151,12 +151,15 @@ impl KeyAndNonce {
         ensures is_key { IsKey key.now }
         ensures holds { (s : Setting) → s.suite ≡ suite → construction_of suite ≡ ByGcmSiv
             → length s.key ≡ key_length suite → key.now ≡ encryption_key s.key s.nonce
-            → Serves Reversed (authentication_key s.key s.nonce) hash_key.now
+            → Serves Reversed (authentication_key s.key s.nonce) multiplier_key.now
             → s.nonce ≡ nonce.now → s.aad ≡ aad.now → length aad.now ≤ aad_limit suite
             → HasBegun self.new state.new s }
     {
         *self = KeyAndNonce::of(key, nonce);
-        *state = aes_pass::initial_state::<PolyvalOrder>(gcm_siv::hash_keys(hash_key), aad);
+        *state = aes_pass::initial_state::<PolyvalOrder>(
+            gcm_siv::message_secret(multiplier_key),
+            aad,
+        );
     }
 
     // Begins a pass under AES-GCM-SIV, from the key that the message's keys are derived from.
@@ -176,15 +179,15 @@ impl KeyAndNonce {
         ensures holds { HasBegun self.new state.new (setting_of suite cipher.now nonce.now aad.now) }
     {
         let parts = KeyParts::new(cipher, nonce);
-        let hash_key = hash_key(&parts);
+        let multiplier_key = multiplier_key(&parts);
         match suite {
             Suite::Aes128GcmSiv => {
                 let key = short_encryption_key(&parts);
-                self.begin_derived(state, suite, &key, &hash_key, nonce, aad);
+                self.begin_derived(state, suite, &key, &multiplier_key, nonce, aad);
             }
             _ => {
                 let key = long_encryption_key(&parts);
-                self.begin_derived(state, suite, &key, &hash_key, nonce, aad);
+                self.begin_derived(state, suite, &key, &multiplier_key, nonce, aad);
             }
         }
     }

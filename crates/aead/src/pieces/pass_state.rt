@@ -29,8 +29,9 @@ const WORD: u128 = 0x1_0000_0000_0000_0000;
 #[repr(C)]
 #[derive(Clone, Copy)]
 pub struct PassState {
-    // The one-time key of Poly1305; or the key of GHASH and the cipher of J0; or the key of POLYVAL's multiplier and zeros.
-    hash_key: [u8; 32],
+    // What hash and tag of the message rest on: the one-time key of Poly1305; or the key of GHASH and the cipher of J0; or the key of
+    // POLYVAL's multiplier and zeros.
+    message_secret: [u8; 32],
     // The bytes after the last whole block of what is hashed, and zeros after them.
     rest: [u8; 16],
     // The sum over the whole blocks, in words of 64 bits. `high` is 0 under GHASH and POLYVAL.
@@ -44,20 +45,20 @@ pub struct PassState {
 /// The sum of a hash over whole blocks, in words of 64 bits.
 #[repr(C)]
 #[derive(Clone, Copy)]
-pub(crate) struct Sum {
+pub(crate) struct SumWords {
     low: u64,
     middle: u64,
     high: u64,
 }
 
-impl Sum {
+impl SumWords {
     ghost use Rattle.aead.specs.PassStates.{zero_sum};
 
     // The sum of zeros.
-    pub(crate) fn zero() -> Sum
+    pub(crate) fn zero() -> SumWords
         ensures { result ≡ zero_sum }
     {
-        Sum {
+        SumWords {
             low: 0,
             middle: 0,
             high: 0,
@@ -66,7 +67,7 @@ impl Sum {
 }
 
 impl PassState {
-    ghost use Rattle.aead.specs.PassStates.{zero_state, IsHashKey, IsStart, HoldsNumbers, HoldsState};
+    ghost use Rattle.aead.specs.PassStates.{zero_state, IsMessageSecret, IsStart, HoldsNumbers, HoldsState};
     ghost use Rattle.aead.specs.KeyedPasses.{KnowsCipherOf};
     ghost use Rattle.aead.specs.Code.Masks.{hashed_by};
     ghost use Rattle.aead.specs.Code.MessageKeys.{construction_by, AreKeysOf};
@@ -77,7 +78,7 @@ impl PassState {
         ensures { result ≡ zero_state }
     {
         PassState {
-            hash_key: [0; 32],
+            message_secret: [0; 32],
             rest: [0; 16],
             low: 0,
             middle: 0,
@@ -89,8 +90,8 @@ impl PassState {
 
     // The state of an authenticator.
     #[inline(always)]
-    fn of<H: TagHash>(hash_key: [u8; 32], authenticator: &Authenticator<H>) -> PassState
-        ensures holds { (s : Setting) (bytes : List ℕ) → IsHashKey (construction_of s.suite) hash_key s
+    fn of<H: TagHash>(secret: [u8; 32], authenticator: &Authenticator<H>) -> PassState
+        ensures holds { (s : Setting) (bytes : List ℕ) → IsMessageSecret (construction_of s.suite) secret s
             → HoldsAuthenticator H.held authenticator.now s bytes → HoldsNumbers result s bytes }
         ensures length { result.length ≡ authenticator.now.length }
     {
@@ -99,7 +100,7 @@ impl PassState {
         let mut rest = [0; 16];
         rest[..last.len()].copy_from_slice(last);
         PassState {
-            hash_key,
+            message_secret: secret,
             rest,
             low: (low % WORD) as u64,
             middle: (low >> 64) as u64,
@@ -125,7 +126,12 @@ impl PassState {
     {
         let used = (self.length % 16) as usize;
         Authenticator {
-            hash: keys.resumed(&self.hash_key, self.low(), self.high, &self.rest[..used]),
+            hash: keys.resumed(
+                &self.message_secret,
+                self.low(),
+                self.high,
+                &self.rest[..used],
+            ),
             aad_length: self.aad_length,
             length: self.length,
         }
@@ -133,16 +139,16 @@ impl PassState {
 
     // The key of the multiplier of GHASH or POLYVAL.
     pub(crate) fn multiplier_key(&self) -> Block
-        ensures { result ≡ take 16 self.now.hash_key }
+        ensures { result ≡ take 16 self.now.message_secret }
     {
-        first_block(&self.hash_key)
+        first_block(&self.message_secret)
     }
 
     // The block that the tag of AES-GCM is masked with: the cipher of J0.
     pub(crate) fn tag_mask(&self) -> Block
-        ensures { result ≡ drop 16 self.now.hash_key }
+        ensures { result ≡ drop 16 self.now.message_secret }
     {
-        last_block(&self.hash_key)
+        last_block(&self.message_secret)
     }
 
     // Whether the text so far and the piece are together within this limit.
@@ -155,12 +161,12 @@ impl PassState {
 
     // The initial state without associated data. It needs no table of the hash key.
     #[inline(always)]
-    pub(crate) fn empty(hash_key: [u8; 32]) -> PassState
-        ensures { (s : Setting) → IsHashKey (construction_of s.suite) hash_key s → length s.aad ≡ 0
+    pub(crate) fn empty(secret: [u8; 32]) -> PassState
+        ensures { (s : Setting) → IsMessageSecret (construction_of s.suite) secret s → length s.aad ≡ 0
             → HoldsNumbers result s [] }
     {
         PassState {
-            hash_key,
+            message_secret: secret,
             rest: [0; 16],
             low: 0,
             middle: 0,
@@ -172,13 +178,13 @@ impl PassState {
 
     // The initial state for associated data.
     #[inline(always)]
-    pub(crate) fn initial<K: HashKeys>(keys: &K, hash_key: [u8; 32], aad: &[u8]) -> PassState
-        ensures { (s : Setting) → K.serves keys.now s → IsHashKey (construction_of s.suite) hash_key s
+    pub(crate) fn initial<K: HashKeys>(keys: &K, secret: [u8; 32], aad: &[u8]) -> PassState
+        ensures { (s : Setting) → K.serves keys.now s → IsMessageSecret (construction_of s.suite) secret s
             → s.aad ≡ aad.now → length aad.now ≤ aad_limit s.suite → HoldsNumbers result s [] }
     {
-        let mut authenticator = Authenticator::empty(keys.resumed(&hash_key, 0, 0, &[]));
+        let mut authenticator = Authenticator::empty(keys.resumed(&secret, 0, 0, &[]));
         authenticator.begin(aad);
-        PassState::of(hash_key, &authenticator)
+        PassState::of(secret, &authenticator)
     }
 
     // Masks a piece and authenticates it. The mask stands where the piece begins.
@@ -203,7 +209,7 @@ impl PassState {
     {
         let mut authenticator = self.authenticator(keys);
         step(order, mask, &mut authenticator, piece);
-        *self = PassState::of(self.hash_key, &authenticator);
+        *self = PassState::of(self.message_secret, &authenticator);
     }
 
     // Authenticates a piece.
@@ -216,7 +222,7 @@ impl PassState {
     {
         let mut authenticator = self.authenticator(keys);
         authenticator.update(piece);
-        *self = PassState::of(self.hash_key, &authenticator);
+        *self = PassState::of(self.message_secret, &authenticator);
     }
 
     // Authenticates the text of a piece of a ciphertext. The mask stands where the piece begins.
@@ -235,7 +241,7 @@ impl PassState {
     {
         let mut authenticator = self.authenticator(keys);
         take_text(mask, &mut authenticator, piece);
-        *self = PassState::of(self.hash_key, &authenticator);
+        *self = PassState::of(self.message_secret, &authenticator);
     }
 
     // Returns the hash of what was authenticated, of which the tag is made.
@@ -248,10 +254,10 @@ impl PassState {
     }
 
     // The sum over the whole blocks.
-    pub(crate) fn sum(&self) -> Sum
+    pub(crate) fn sum(&self) -> SumWords
         ensures { (s : Setting) → HoldsNumbers self.now s [] → IsStart result s }
     {
-        Sum {
+        SumWords {
             low: self.low,
             middle: self.middle,
             high: self.high,
@@ -259,13 +265,13 @@ impl PassState {
     }
 
     // The initial state for the same key, nonce and associated data. `start` is the sum over the associated data.
-    pub(crate) fn restarted(&self, start: Sum) -> PassState
+    pub(crate) fn restarted(&self, start: SumWords) -> PassState
         ensures holds { (s : Setting) (bytes : List ℕ) → HoldsNumbers self.now s bytes → IsStart start s
             → HoldsNumbers result s [] }
         ensures length { result.length ≡ 0 }
     {
         PassState {
-            hash_key: self.hash_key,
+            message_secret: self.message_secret,
             rest: [0; 16],
             low: start.low,
             middle: start.middle,

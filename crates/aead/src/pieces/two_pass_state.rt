@@ -10,7 +10,7 @@ ghost use Rattle.aead.specs.Refusals.{FitsIn, SealRefused};
 ghost use Rattle.aead.specs.PassStates.{HoldsNumbers, IsStart};
 
 use crate::pieces::keys::MessageKeys;
-use crate::pieces::pass_state::{PassState, Sum};
+use crate::pieces::pass_state::{PassState, SumWords};
 use aes::KnownBlock;
 use octets::{Fault, Order, Tag, same};
 
@@ -24,7 +24,7 @@ pub struct TwoPassState {
     // The state of the reading or the pass.
     pub(crate) pass: PassState,
     // The sum of the hash over the padded associated data, where both readings or passes begin.
-    pub(crate) start: Sum,
+    pub(crate) start: SumWords,
     // The tag of the first text, in the second reading; or the tag of the sealing, in both passes.
     pub(crate) tag: [u8; 16],
     // The length of the first reading or pass, in the second.
@@ -43,7 +43,7 @@ impl TwoPassState {
     {
         TwoPassState {
             pass: PassState::zeros(),
-            start: Sum::zero(),
+            start: SumWords::zero(),
             tag: [0; 16],
             first: 0,
         }

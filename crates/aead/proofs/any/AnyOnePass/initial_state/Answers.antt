@@ -3,7 +3,7 @@ use Rattle.aead.specs.Suites.{construction_of}
 use Rattle.aead.specs.Ciphers.{setting}
 use Rattle.aead.specs.AnyCiphers.{one_pass_keyed}
 use Rattle.aead.specs.Sealing.{poly_key}
-use Rattle.aead.specs.PassStates.{IsHashKey}
+use Rattle.aead.specs.PassStates.{IsMessageSecret}
 use Rattle.aead.proofs.any.AnyOnePass.initial_state.Goals as goal
 
 pub returns-in-ChaCha : goal.returns-in-ChaCha
@@ -12,7 +12,7 @@ returns-in-ChaCha c =
     let by = ap (λ k. construction_of (one_pass_keyed k).suite) c.in-ChaCha.is ∙ c.key.ensures.by in
     let own = ap (λ k. (one_pass_keyed k).key) c.in-ChaCha.is ∙ sym c.key.ensures.key in
     c.initial.ensures s by
-    (subst (λ x. IsHashKey x c.one_time_key.result s) (sym by)
+    (subst (λ x. IsMessageSecret x c.one_time_key.result s) (sym by)
     (c.one_time_key.ensures ∙ ap (λ k. poly_key k c.args.nonce.now) (sym own)))
     refl c.requires
 
@@ -21,4 +21,4 @@ returns-in-Gcm c =
     let s = setting (one_pass_keyed c.args.self.now) c.args.nonce.now c.args.aad.now in
     let by = ap (λ k. construction_of (one_pass_keyed k).suite) c.in-Gcm.is ∙ c.keys.ensures.by in
     let is = ap (λ k. (one_pass_keyed k).key) c.in-Gcm.is in
-    c.initial_state.ensures s by (c.hash_keys.ensures s (is ∙ sym c.keys.ensures.key) refl) refl c.requires
+    c.initial_state.ensures s by (c.message_secret.ensures s (is ∙ sym c.keys.ensures.key) refl) refl c.requires

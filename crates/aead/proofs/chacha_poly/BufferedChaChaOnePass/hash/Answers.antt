@@ -8,6 +8,6 @@ returns c = λ aad.
     let m = c.args.self.now in
     let P : List ℕ → Type 0 = λ k. Holds c.new.result k [] in (
       refl,
-      subst P (c.first_half.ensures
+      subst P (c.first_32.ensures
           ∙ poly_key_first m.key.now m.nonce.now m.start.now m.has_a_block m.start_is) c.new.ensures,
     )

@@ -9,7 +9,7 @@ returns-clause-keys c = λ s k multiplier nonce.
       by = k.by;
       cipher = (
         k.encryption_is,
-        subst (λ (x : List ℕ). Serves Reversed (authentication_key s.key s.nonce) x) (sym multiplier) k.hash_key_is,
+        subst (λ (x : List ℕ). Serves Reversed (authentication_key s.key s.nonce) x) (sym multiplier) k.multiplier_key_is,
       );
       nonce_is = c.bytes.ensures.value ∙ nonce;
     }

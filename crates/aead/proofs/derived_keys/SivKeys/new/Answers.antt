@@ -7,7 +7,7 @@ returns c = λ aad.
       derived = record {
         by = c.derive-derived.ensures.by;
         encryption_is = c.derive-derived.ensures.encryption;
-        hash_key_is = (c.derive-derived.ensures.block, c.derive-derived.ensures.hash_key);
+        multiplier_key_is = (c.derive-derived.ensures.block, c.derive-derived.ensures.multiplier_key);
       };
       multiplier_is = c.of.ensures;
       nonce_is = refl;

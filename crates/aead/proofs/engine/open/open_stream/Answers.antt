@@ -33,7 +33,7 @@ open_over-requires-in-Siv g c =
     let suite = c.suite.ensures ∙ ap (λ k. (keyed_of k).suite) c.in-Siv.is in
     let d = c.derive-derived.ensures in
     (c.initial_state-state-in-Siv.ensures s
-    (record { by = d.by; encryption_is = d.encryption; hash_key_is = (d.block, d.hash_key) }) refl
+    (record { by = d.by; encryption_is = d.encryption; multiplier_key_is = (d.block, d.multiplier_key) }) refl
     (omega (arith, c.in_ok-check_aad.ensures, ap aad_limit suite))).length_is
 
 pub returns-in-ChaCha-clause-opens : goal.returns-in-ChaCha-clause-opens
@@ -64,7 +64,7 @@ returns-in-Siv-clause-opens g c =
     let suite = c.suite.ensures ∙ ap (λ k. (keyed_of k).suite) c.in-Siv.is in
     let d = c.derive-derived.ensures in
     let derived : AreDerived c.derive-derived.result s =
-    record { by = d.by; encryption_is = d.encryption; hash_key_is = (d.block, d.hash_key) } in
+    record { by = d.by; encryption_is = d.encryption; multiplier_key_is = (d.block, d.multiplier_key) } in
     let begins : under c.in-Siv.cipher = record {
       keys_are = c.message_keys-keys.ensures.keys s derived c.of-multiplier.ensures refl;
       state_is = c.initial_state-state-in-Siv.ensures s derived refl

@@ -23,12 +23,12 @@ returns-in_err-check_aad-clause-seals g c =
     })
     (λ h. omega (arith, h, c.in_err-check_aad.ensures.1, ap aad_limit c.suite.ensures.value)))
 
-pub seal_over-requires : goal.seal_over-requires
-seal_over-requires g c =
+pub seal_in_two-requires : goal.seal_in_two-requires
+seal_in_two-requires g c =
     let s : Setting = setting c.args.cipher.now c.args.nonce.now c.args.aad.now in
     let d = c.derive-derived.ensures in
     (c.initial_state-state.ensures s
-    (record { by = d.by; encryption_is = d.encryption; hash_key_is = (d.block, d.hash_key) }) refl
+    (record { by = d.by; encryption_is = d.encryption; multiplier_key_is = (d.block, d.multiplier_key) }) refl
     (omega (arith, c.in_ok-check_aad.ensures, ap aad_limit c.suite.ensures.value))).length_is
 
 pub returns-clause-seals : goal.returns-clause-seals
@@ -36,7 +36,7 @@ returns-clause-seals g c =
     let s : Setting = setting c.args.cipher.now c.args.nonce.now c.args.aad.now in
     let d = c.derive-derived.ensures in
     let derived : AreDerived c.derive-derived.result s =
-    record { by = d.by; encryption_is = d.encryption; hash_key_is = (d.block, d.hash_key) } in
-    c.seal_over.ensures.seals s d.by (c.message_keys-keys.ensures.keys s derived c.of-multiplier.ensures refl)
+    record { by = d.by; encryption_is = d.encryption; multiplier_key_is = (d.block, d.multiplier_key) } in
+    c.seal_in_two.ensures.seals s d.by (c.message_keys-keys.ensures.keys s derived c.of-multiplier.ensures refl)
     (c.initial_state-state.ensures s derived refl
     (omega (arith, c.in_ok-check_aad.ensures, ap aad_limit c.suite.ensures.value)))

@@ -9,6 +9,6 @@ pub returns : goal.returns
 returns g c = λ aad tag.
     let m = c.args.self.now in
     let P : List ℕ → Type 0 = λ b. Holds up_be c.new.result m.cipher.now.key.now b 0 in
-    let first : c.counter_block.result ≡ up_be (j0 m.nonce.now) 1 =
-    c.counter_block.ensures.value ∙ sym (first_block m.nonce.now c.counter_block.ensures.nonce_length) in
+    let first : c.nonce_and_counter.result ≡ up_be (j0 m.nonce.now) 1 =
+    c.nonce_and_counter.ensures.value ∙ sym (first_block m.nonce.now c.nonce_and_counter.ensures.nonce_length) in
     (m.cipher.now.by_gcm, subst P first c.new.ensures)

@@ -10,4 +10,4 @@ returns g c = λ aad m digest.
     let n = c.args.self.now in
     let gcm = n.cipher.now in
     c.masked_tag.ensures (setting_of gcm.suite gcm.key.now n.nonce.now aad) m gcm.by_gcm
-    (c.encrypt_in_registers-mask.ensures.value ∙ ap (cipher gcm.key.now) c.counter_block.ensures.value) digest
+    (c.encrypt_in_registers-mask.ensures.value ∙ ap (cipher gcm.key.now) c.nonce_and_counter.ensures.value) digest

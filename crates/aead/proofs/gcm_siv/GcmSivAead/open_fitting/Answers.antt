@@ -24,14 +24,14 @@ returns-then-same c =
     λ x. HoldsAuthenticator (HeldByBlocks ByGcmSiv Reversed (λ m. key_of m.now)) c.begin.new.self s x in
     let serves : Serves Reversed auth (key_of c.of-multiplier.result) = (
       c.derive-keys.ensures.block,
-      subst (λ (k : List ℕ). IsReversedMulX auth k) (sym c.of-multiplier.ensures) c.derive-keys.ensures.hash_key,
+      subst (λ (k : List ℕ). IsReversedMulX auth k) (sym c.of-multiplier.ensures) c.derive-keys.ensures.multiplier_key,
     ) in
     let held : HeldByBlocks ByGcmSiv Reversed (λ m. key_of m.now) c.with.result s [] =
     (by, merely (c.with.ensures auth serves)) in
     let hash = rw (sym c.empty-authenticator.ensures.0) at held in
     let none = subst P (sym (none_hashed MaskFirst (mask_of s c.args.tag.now)))
     (c.begin.ensures.holds s refl c.requires.aad_fits hash) in
-    let fed = c.step.ensures.step s c.args.tag.now [] (c.tag_mask-mask.ensures s by c.derive-keys.ensures.encryption) none
+    let fed = c.step.ensures.step s c.args.tag.now [] (c.mask_of_tag-mask.ensures s by c.derive-keys.ensures.encryption) none
     (omega (arith, c.requires.text_fits)) in
     let tag_is : tag_of s (unmasked s c.args.tag.now c.args.body.now) ≡ c.encrypted_tag-found.result =
     two_pass_tag s (unmasked s c.args.tag.now c.args.body.now) (ap is_one_pass by)
@@ -50,14 +50,14 @@ returns c =
     λ x. HoldsAuthenticator (HeldByBlocks ByGcmSiv Reversed (λ m. key_of m.now)) c.begin.new.self s x in
     let serves : Serves Reversed auth (key_of c.of-multiplier.result) = (
       c.derive-keys.ensures.block,
-      subst (λ (k : List ℕ). IsReversedMulX auth k) (sym c.of-multiplier.ensures) c.derive-keys.ensures.hash_key,
+      subst (λ (k : List ℕ). IsReversedMulX auth k) (sym c.of-multiplier.ensures) c.derive-keys.ensures.multiplier_key,
     ) in
     let held : HeldByBlocks ByGcmSiv Reversed (λ m. key_of m.now) c.with.result s [] =
     (by, merely (c.with.ensures auth serves)) in
     let hash = rw (sym c.empty-authenticator.ensures.0) at held in
     let none = subst P (sym (none_hashed MaskFirst (mask_of s c.args.tag.now)))
     (c.begin.ensures.holds s refl c.requires.aad_fits hash) in
-    let fed = c.step.ensures.step s c.args.tag.now [] (c.tag_mask-mask.ensures s by c.derive-keys.ensures.encryption) none
+    let fed = c.step.ensures.step s c.args.tag.now [] (c.mask_of_tag-mask.ensures s by c.derive-keys.ensures.encryption) none
     (omega (arith, c.requires.text_fits)) in
     let tag_is : tag_of s (unmasked s c.args.tag.now c.args.body.now) ≡ c.encrypted_tag-found.result =
     two_pass_tag s (unmasked s c.args.tag.now c.args.body.now) (ap is_one_pass by)
@@ -76,7 +76,7 @@ returns c =
               ∙ c.if-same.false)),
         ),
       ),
-      (c.apply_to.ensures s c.args.tag.now 0 (c.tag_mask.ensures s by c.derive-keys.ensures.encryption)
+      (c.apply_to.ensures s c.args.tag.now 0 (c.mask_of_tag.ensures s by c.derive-keys.ensures.encryption)
           (omega (arith, long))).1
           ∙ ap (masked f 0) fed.2
           ∙ masked_twice f 0 c.args.body.now,

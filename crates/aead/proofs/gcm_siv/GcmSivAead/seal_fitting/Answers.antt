@@ -19,7 +19,7 @@ returns c =
     let auth = authentication_key s.key s.nonce in
     let serves : Serves Reversed auth (key_of c.of-multiplier.result) = (
       c.derive-keys.ensures.block,
-      subst (λ (k : List ℕ). IsReversedMulX auth k) (sym c.of-multiplier.ensures) c.derive-keys.ensures.hash_key,
+      subst (λ (k : List ℕ). IsReversedMulX auth k) (sym c.of-multiplier.ensures) c.derive-keys.ensures.multiplier_key,
     ) in
     let held : HeldByBlocks ByGcmSiv Reversed (λ m. key_of m.now) c.with.result s [] =
     (by, merely (c.with.ensures auth serves)) in
@@ -30,5 +30,5 @@ returns c =
     (ap is_one_pass by) fits c.update.ensures.bytes
     (c.encrypted_tag-tag.ensures s c.args.text.now by c.derive-keys.ensures.encryption refl
     (c.digest.ensures.digest s c.args.text.now taken))
-    (c.apply_to.ensures s c.encrypted_tag-tag.result 0 (c.tag_mask.ensures s by c.derive-keys.ensures.encryption)
+    (c.apply_to.ensures s c.encrypted_tag-tag.result 0 (c.mask_of_tag.ensures s by c.derive-keys.ensures.encryption)
     (omega (arith, fits.text_fits))).1

@@ -3,4 +3,4 @@ use Rattle.aead.proofs.Streams.{first_block}
 use Rattle.aead.proofs.rule.GhashOrderRule.first_counter.Goals as goal
 
 pub returns : goal.returns
-returns c = c.counter_block.ensures.value ∙ sym (first_block c.args.nonce.now c.counter_block.ensures.nonce_length)
+returns c = c.nonce_and_counter.ensures.value ∙ sym (first_block c.args.nonce.now c.nonce_and_counter.ensures.nonce_length)

@@ -15,5 +15,5 @@ returns-clause-holds c = λ s same by key_fits key serves nonce aad fits.
           (c.requires ∙ ap key_length (sym same)) (key_fits ∙ ap key_length (sym same))
           (ap length nonce ∙ c.of.ensures.nonce_length) c.of.ensures.key c.of.ensures.padded
           (c.of.ensures.nonce ∙ sym nonce),
-      c.initial_state.ensures s is (c.hash_keys.ensures s serves) aad (omega (arith, fits, ap aad_limit same)),
+      c.initial_state.ensures s is (c.message_secret.ensures s serves) aad (omega (arith, fits, ap aad_limit same)),
     )

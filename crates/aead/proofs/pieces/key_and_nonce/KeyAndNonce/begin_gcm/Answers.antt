@@ -5,8 +5,8 @@ use Rattle.aead.specs.KeyedPasses.{setting_of, cipher_key}
 use Rattle.aead.proofs.KeyedPasses.{has_keys}
 use Rattle.aead.proofs.pieces.key_and_nonce.KeyAndNonce.begin_gcm.Goals as goal
 
-pub hash_keys-requires : goal.hash_keys-requires
-hash_keys-requires c = c.requires.ghash_key ∙ ap hash_key (sym c.requires.cipher)
+pub message_secret-requires : goal.message_secret-requires
+message_secret-requires c = c.requires.ghash_key ∙ ap hash_key (sym c.requires.cipher)
 
 pub returns : goal.returns
 returns c =
@@ -14,5 +14,5 @@ returns c =
       has_keys c.of.result s c.args.key.now (ap (λ (x : Construction). cipher_key x s) (sym c.requires.by))
           c.requires.long c.requires.long c.of.ensures.nonce_length c.of.ensures.key c.of.ensures.padded
           c.of.ensures.nonce,
-      c.initial_state.ensures s c.requires.by (c.hash_keys.ensures s (sym c.requires.cipher) refl) refl c.requires.fits,
+      c.initial_state.ensures s c.requires.by (c.message_secret.ensures s (sym c.requires.cipher) refl) refl c.requires.fits,
     )

@@ -16,8 +16,8 @@ returns-in-Aes128GcmSiv-clause-holds c =
     let s : Setting = setting_of c.args.suite c.args.cipher.now c.args.nonce.now c.args.aad.now in
     let key = c.new-parts.ensures.key in
     let nonce = c.new-parts.ensures.nonce in
-    let serves = serves_under _ _ s.key s.nonce c.hash_key-hash_key.result key nonce
-    (c.hash_key-hash_key.ensures.of_block, c.hash_key-hash_key.ensures.value) in
+    let serves = serves_under _ _ s.key s.nonce c.multiplier_key-multiplier_key.result key nonce
+    (c.multiplier_key-multiplier_key.ensures.of_block, c.multiplier_key-multiplier_key.ensures.value) in
     c.begin_derived.ensures.holds s refl c.requires.by c.requires.long
     (c.short_encryption_key-key.ensures ∙ ap₂ encryption_key key nonce)
     serves refl refl c.requires.fits
@@ -33,7 +33,7 @@ returns-in_default-clause-holds c =
     let s : Setting = setting_of c.args.suite c.args.cipher.now c.args.nonce.now c.args.aad.now in
     let key = c.new-parts.ensures.key in
     let nonce = c.new-parts.ensures.nonce in
-    let serves = serves_under _ _ s.key s.nonce c.hash_key-hash_key.result key nonce
-    (c.hash_key-hash_key.ensures.of_block, c.hash_key-hash_key.ensures.value) in
+    let serves = serves_under _ _ s.key s.nonce c.multiplier_key-multiplier_key.result key nonce
+    (c.multiplier_key-multiplier_key.ensures.of_block, c.multiplier_key-multiplier_key.ensures.value) in
     c.begin_derived-in_default.ensures.holds s refl c.requires.by c.requires.long
     (c.long_encryption_key-key.ensures ∙ ap₂ encryption_key key nonce) serves refl refl c.requires.fits

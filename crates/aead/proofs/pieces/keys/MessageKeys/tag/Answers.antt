@@ -1,7 +1,7 @@
 use Rattle.std.proofs.Common.{ap, subst, ◌∙◌}
 use Rattle.aead.specs.declared.pieces.keys.CipherKeys.{CipherKeys}
 use Rattle.aead.specs.Suites.{Construction}
-use Rattle.aead.specs.PassStates.{IsHashKey}
+use Rattle.aead.specs.PassStates.{IsMessageSecret}
 use Rattle.aead.specs.Code.MessageKeys.{construction_by, AreCipherKeys}
 use Rattle.aead.proofs.pieces.keys.MessageKeys.tag.Goals as goal
 
@@ -14,7 +14,7 @@ pub returns-in-Gcm : goal.returns-in-Gcm
 returns-in-Gcm c = λ s bytes k h.
     let own = subst (λ (x : CipherKeys). AreCipherKeys x s) c.in-Gcm.is k.cipher in
     let by = k.by ∙ ap construction_by c.in-Gcm.is in
-    let hash = subst (λ (x : Construction). IsHashKey x c.args.state.now.hash_key s) by h.hash_key_is in
+    let hash = subst (λ (x : Construction). IsMessageSecret x c.args.state.now.message_secret s) by h.secret_is in
     c.masked_tag.ensures s bytes by (c.tag_mask.ensures ∙ hash.1) (c.digest-digest.ensures s bytes by own h)
 
 pub returns-in-Siv : goal.returns-in-Siv

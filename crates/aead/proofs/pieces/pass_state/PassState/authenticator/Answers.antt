@@ -10,7 +10,7 @@ returns-clause-holds g c = λ s bytes serves t.
     let m = pad16 s.aad ++ bytes in
     let sum = subst (λ (x : ℕ). IsSumOf (construction_of s.suite) x n.high s m) (sym c.low.ensures) t.sum_is in
     record {
-      hashed = c.resumed.ensures s m serves t.hash_key_is sum t.rest_is;
+      hashed = c.resumed.ensures s m serves t.secret_is sum t.rest_is;
       aad_length_is = t.aad_length_is;
       length_is = t.length_is;
       fits = t.fits;

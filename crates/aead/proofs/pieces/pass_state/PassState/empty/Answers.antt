@@ -10,7 +10,7 @@ pub returns : goal.returns
 returns c = λ s keyed none.
     let nothing : pad16 s.aad ++ [] ≡ [] = ap (λ (m : List ℕ). pad16 m ++ []) (nil_from_length s.aad none) in
     record {
-      hash_key_is = keyed;
+      secret_is = keyed;
       sum_is = subst (λ (m : List ℕ). IsSumOf (construction_of s.suite) 0 0 s m) (sym nothing)
           (no_sum (construction_of s.suite) s);
       rest_is = ap (λ (m : List ℕ). drop (length m / 16 * 16) m) (sym nothing);

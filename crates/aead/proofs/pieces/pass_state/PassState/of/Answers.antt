@@ -26,7 +26,7 @@ returns-clause-holds g c = λ s bytes keyed held.
       length-drop (length m / 16 * 16) m,
     ) in
     record {
-      hash_key_is = keyed;
+      secret_is = keyed;
       sum_is = subst (λ (x : ℕ). IsSumOf (construction_of s.suite) x c.sum-low.result.1 s m) whole
           (c.sum-low.ensures s m held.hashed);
       rest_is = take-put_mid 0 (length last) (replicate 16 0) c.copy_from_slice.new.self (c.args.authenticator.now.length % 16)

@@ -13,7 +13,7 @@ returns-clause-holds c = λ s bytes h start.
     let whole : length (pad16 s.aad ++ []) / 16 * 16 ≡ length (pad16 s.aad ++ []) =
     omega (arith, ap length none, whole_padded s.aad) in
     record {
-      hash_key_is = h.hash_key_is;
+      secret_is = h.secret_is;
       sum_is = subst (λ (m : List ℕ). IsSumOf (construction_of s.suite) (n.low + n.middle * 2 ^ 64) n.high s m) (sym none)
           start;
       rest_is = sym (drop_all _ (pad16 s.aad ++ []) (omega (arith, whole)));

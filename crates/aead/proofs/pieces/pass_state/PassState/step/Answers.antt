@@ -7,7 +7,7 @@ returns-clause-masks g c = λ s tag fed serves made long fits h.
     let room : length fed + length c.args.piece.now ≤ text_limit s.suite = omega (arith, fits, long) in
     let P : ℕ → Type 0 = λ n. g.S.MaskStream.made c.args.mask.now s tag n in
     let step = c.step.ensures.step s tag fed (subst P long made) (c.authenticator-authenticator.ensures.holds s _ serves h) room in
-    (c.of.ensures.holds s _ h.hash_key_is step.1, step.2)
+    (c.of.ensures.holds s _ h.secret_is step.1, step.2)
 
 pub returns-clause-mask : goal.returns-clause-mask
 returns-clause-mask g c = λ s tag fed serves made long fits h.

@@ -7,4 +7,4 @@ returns-clause-takes g c = λ s tag fed serves made long fits h.
     let P : ℕ → Type 0 = λ n. g.S.MaskStream.made c.args.mask.now s tag n in
     let room : length fed + length c.args.piece.now ≤ text_limit s.suite = omega (arith, fits, long) in
     let step = c.take_text.ensures.takes s tag fed (subst P long made) (c.authenticator-authenticator.ensures.holds s _ serves h) room in
-    c.of.ensures.holds s _ h.hash_key_is step.1
+    c.of.ensures.holds s _ h.secret_is step.1

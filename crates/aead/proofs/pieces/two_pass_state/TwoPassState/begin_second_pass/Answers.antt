@@ -1,5 +1,5 @@
 use Rattle.std.proofs.Common.{refl, sym, subst, arith, ◌∙◌}
-use Rattle.aead.specs.declared.pieces.pass_state.Sum.{Sum}
+use Rattle.aead.specs.declared.pieces.pass_state.SumWords.{SumWords}
 use Rattle.aead.specs.PassStates.{IsStart}
 use Rattle.aead.proofs.TakenIn.{taken_none, taken_length, taken_fits}
 use Rattle.aead.proofs.pieces.two_pass_state.TwoPassState.begin_second_pass.Goals as goal
@@ -12,7 +12,7 @@ returns-clause-answer c = λ s tag body k bytes first.
       record {
         pass = record {
           pass = taken_none _ s tag (next.pass s _ n.pass n.start);
-          start = subst (λ (x : Sum). IsStart x s) (sym next.start) n.start;
+          start = subst (λ (x : SumWords). IsStart x s) (sym next.start) n.start;
           tag_is = next.tag ∙ n.tag_is;
           tag_long = n.tag_long;
           small = λ i. omega arith;

@@ -1,5 +1,5 @@
 use Rattle.std.proofs.Common.{sym, subst, arith, ◌∙◌}
-use Rattle.aead.specs.declared.pieces.pass_state.Sum.{Sum}
+use Rattle.aead.specs.declared.pieces.pass_state.SumWords.{SumWords}
 use Rattle.aead.specs.PassStates.{IsStart}
 use Rattle.aead.proofs.pieces.two_pass_state.TwoPassState.begin_second_reading.Goals as goal
 
@@ -10,7 +10,7 @@ returns c = λ s text by k n.
       tag_is,
       record {
         pass = next.pass s text n.pass n.start;
-        start = subst (λ (x : Sum). IsStart x s) (sym next.start) n.start;
+        start = subst (λ (x : SumWords). IsStart x s) (sym next.start) n.start;
         tag_is = next.tag ∙ c.bytes.ensures.value ∙ tag_is;
         first_is = next.first ∙ n.pass.length_is;
         first_fits = n.pass.fits.text_fits;

@@ -1,6 +1,6 @@
 use Rattle.std.proofs.Common.{◌∷◌, [], refl, ◌∙◌, rules}
 use Rattle.aead.proofs.DerivedKeys.{two_parts}
-use Rattle.aead.proofs.gcm.counter_block.Goals as goal
+use Rattle.aead.proofs.gcm.nonce_and_counter.Goals as goal
 
 pub returns-clause-value : goal.returns-clause-value
 returns-clause-value c =

@@ -2,7 +2,7 @@ use Rattle.std.proofs.Common.{ℕ, List, ◌++◌, ap₂, ◌∙◌, subst}
 use Rattle.octets.specs.Bytes.{IsBlock}
 use Rattle.gf128.specs.Polyval.{IsReversedMulX}
 use Rattle.aead.specs.Sealing.{authentication_key}
-use Rattle.aead.proofs.derived_keys.hash_key.Goals as goal
+use Rattle.aead.proofs.derived_keys.multiplier_key.Goals as goal
 
 pub returns-clause-value : goal.returns-clause-value
 unfolding authentication_key

@@ -3,7 +3,7 @@ use Rattle.aead.specs.Suites.{is_one_pass, text_limit, text_limit_by}
 use Rattle.aead.specs.Sealing.{tag_of}
 use Rattle.aead.proofs.Opens.{two_pass_tag}
 use Rattle.aead.proofs.SivExits.{exit_first, exit_long, exit_second}
-use Rattle.aead.proofs.engine.seal_siv.seal_over.Goals as goal
+use Rattle.aead.proofs.engine.seal_siv.seal_in_two.Goals as goal
 
 pub returns-in-Err-clause-seals : goal.returns-in-Err-clause-seals
 returns-in-Err-clause-seals g c = λ s by k h.
