@@ -151,7 +151,9 @@ impl DerivedKeys {
         let multiplier_key = multiplier_key(&parts);
         let encryption = match suite {
             Suite::Aes128GcmSiv => AesKey::expanded(&short_encryption_key(&parts)),
-            _ => AesKey::expanded(&long_encryption_key(&parts)),
+            Suite::Aes256GcmSiv => AesKey::expanded(&long_encryption_key(&parts)),
+            Suite::ChaCha20Poly1305 | Suite::Aes128Gcm | Suite::Aes192Gcm | Suite::Aes256Gcm =>
+                unreachable!(),
         };
         DerivedKeys {
             multiplier_key,

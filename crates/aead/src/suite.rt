@@ -112,7 +112,7 @@ impl Suite {
         }
     }
 
-    /// Returns the number of a suite, 1 to 6, which stands for it at C and in saved states.
+    /// Returns the number of a suite, 1 to 6, which stands for it at C.
     #[inline]
     pub fn number(self) -> u32
         ensures { result ≡ suite_number self }

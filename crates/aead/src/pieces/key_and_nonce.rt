@@ -185,10 +185,12 @@ impl KeyAndNonce {
                 let key = short_encryption_key(&parts);
                 self.begin_derived(state, suite, &key, &multiplier_key, nonce, aad);
             }
-            _ => {
+            Suite::Aes256GcmSiv => {
                 let key = long_encryption_key(&parts);
                 self.begin_derived(state, suite, &key, &multiplier_key, nonce, aad);
             }
+            Suite::ChaCha20Poly1305 | Suite::Aes128Gcm | Suite::Aes192Gcm | Suite::Aes256Gcm =>
+                unreachable!(),
         }
     }
 

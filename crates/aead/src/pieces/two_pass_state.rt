@@ -96,6 +96,14 @@ impl TwoPassState {
         }
     }
 
+    // The limit of the second reading or pass in bytes: the length of the first, and no more than the limit of a text.
+    #[inline(always)]
+    fn second_limit(&self, keys: &MessageKeys) -> u64
+        ensures { result ≡ min self.now.first (text_limit_by (construction_by keys.now.cipher)) }
+    {
+        self.first.min(keys.text_limit())
+    }
+
     // ---- a sealing in two readings
 
     /// Adds a piece, of any length, to the text in the first reading. `TextTooLong` if the text would be longer than the suite's
@@ -155,8 +163,7 @@ impl TwoPassState {
         ensures fault { FitsIn Fault.SourceChanged result self.old.pass.length (length piece.old)
             (min self.old.first (text_limit_by (construction_by keys.now.cipher))) }
     {
-        let limit = self.first.min(keys.text_limit());
-        if !self.pass.has_room(limit, piece) {
+        if !self.pass.has_room(self.second_limit(keys), piece) {
             return Err(Fault::SourceChanged);
         }
         let tag = self.tag;
@@ -252,8 +259,7 @@ impl TwoPassState {
         ensures fault { FitsIn Fault.SourceChanged result self.old.pass.length (length piece.old)
             (min self.old.first (text_limit_by (construction_by keys.now.cipher))) }
     {
-        let limit = keys.text_limit().min(self.first);
-        if !self.pass.has_room(limit, piece) {
+        if !self.pass.has_room(self.second_limit(keys), piece) {
             return Err(Fault::SourceChanged);
         }
         let tag = self.tag;

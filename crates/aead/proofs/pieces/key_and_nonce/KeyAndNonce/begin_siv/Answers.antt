@@ -22,18 +22,18 @@ returns-in-Aes128GcmSiv-clause-holds c =
     (c.short_encryption_key-key.ensures ∙ ap₂ encryption_key key nonce)
     serves refl refl c.requires.fits
 
-pub returns-in_default-clause-is_key : goal.returns-in_default-clause-is_key
-returns-in_default-clause-is_key c =
+pub returns-in-Aes256GcmSiv-clause-is_key : goal.returns-in-Aes256GcmSiv-clause-is_key
+returns-in-Aes256GcmSiv-clause-is_key c =
     subst IsKey
     (c.long_encryption_key-key.ensures ∙ ap₂ encryption_key c.new-parts.ensures.key c.new-parts.ensures.nonce)
-    c.begin_derived-in_default.ensures.is_key
+    c.begin_derived-in-Aes256GcmSiv.ensures.is_key
 
-pub returns-in_default-clause-holds : goal.returns-in_default-clause-holds
-returns-in_default-clause-holds c =
+pub returns-in-Aes256GcmSiv-clause-holds : goal.returns-in-Aes256GcmSiv-clause-holds
+returns-in-Aes256GcmSiv-clause-holds c =
     let s : Setting = setting_of c.args.suite c.args.cipher.now c.args.nonce.now c.args.aad.now in
     let key = c.new-parts.ensures.key in
     let nonce = c.new-parts.ensures.nonce in
     let serves = serves_under _ _ s.key s.nonce c.multiplier_key-multiplier_key.result key nonce
     (c.multiplier_key-multiplier_key.ensures.of_block, c.multiplier_key-multiplier_key.ensures.value) in
-    c.begin_derived-in_default.ensures.holds s refl c.requires.by c.requires.long
+    c.begin_derived-in-Aes256GcmSiv.ensures.holds s refl c.requires.by c.requires.long
     (c.long_encryption_key-key.ensures ∙ ap₂ encryption_key key nonce) serves refl refl c.requires.fits

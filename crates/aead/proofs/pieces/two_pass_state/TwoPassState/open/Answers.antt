@@ -20,7 +20,7 @@ returns-then-not-has_room-clause-answer c = λ s tag first body k bytes n _. (
     taken_length c.args.self.now.pass s tag body n.pass.pass,
     n.first_is,
     n.first_fits,
-    c.text_limit.ensures,
+    c.second_limit.ensures,
     ap text_limit_by k.by,
     c.has_room.ensures.past c.if-not-has_room.true,
   ),
@@ -31,7 +31,7 @@ returns-clause-answer c = λ s tag first body k bytes n knows.
     let h = n.pass in
     let p = c.args.self.now.pass in
     let fits : p.length + length c.args.piece.now ≤ text_limit s.suite =
-    omega (arith, ap text_limit_by k.by, c.text_limit.ensures, c.has_room.ensures.fits c.if-not-has_room.false) in
+    omega (arith, ap text_limit_by k.by, c.second_limit.ensures, c.has_room.ensures.fits c.if-not-has_room.false) in
     let m = subst (λ (t : List ℕ). HasTakenIn c.open.new.state s t (body ++ c.args.piece.now)
     × (c.open.new.piece ≡ masked (mask_of s t) (length body) c.args.piece.now) × KnowsCipherOf c.open.new.known s) h.tag_is
     (c.open.ensures s body k fits (subst (λ (t : List ℕ). HasTakenIn p s t body) (sym h.tag_is) h.pass) knows) in

@@ -8,9 +8,9 @@ pub returns-clause-answer : goal.returns-clause-answer
 returns-clause-answer c = λ s first text k n knows.
     let room = c.has_room.ensures.fits c.if-not-has_room.false in
     let fits : c.args.self.now.pass.length + length c.args.piece.now ≤ text_limit s.suite =
-    omega (arith, ap text_limit_by k.by, c.text_limit.ensures, c.min-limit.ensures, room) in
+    omega (arith, ap text_limit_by k.by, c.second_limit.ensures, room) in
     let within : length text + length c.args.piece.now ≤ length first =
-    omega (arith, n.pass.length_is, n.first_is, c.min-limit.ensures, room) in
+    omega (arith, n.pass.length_is, n.first_is, c.second_limit.ensures, room) in
     let m = c.mask.ensures.masks s text k n.pass.length_is fits n.pass knows in (
       record {
         pass = m.0;
