@@ -135,8 +135,8 @@ fn open_over<I: Intake, J: Intake, K: Intake, O: Outlet>(
 /// Opens a sealed stream in three readings: it is measured, verified as a sealing, and then decrypted, each
 /// piece being given before the next one is taken. Does not allocate, and holds buffers of a fixed size.
 ///
-/// Faults: `AadTooLong` before any reading; `TextTooLong` as soon as the first reading has given 17 bytes
-/// more than the suite's limit of a text; `TooShort` if it has fewer than 16. `SourceChanged` if the second
+/// Faults: `AadTooLong` before any reading; `TextTooLong` if the first reading has more than 16 bytes past
+/// the suite's limit of a text; `TooShort` if it has fewer than 16. `SourceChanged` if the second
 /// reading has another length or other last 16 bytes, then `TagMismatch` if it is not a sealing; nothing is
 /// given up to here. Then `SourceChanged` if the third reading has another length or other last 16 bytes, or
 /// is not a sealing. `Read` if a reading failed, `Write` if the outlet did. After `AadTooLong`, `TextTooLong`,
