@@ -21,8 +21,8 @@ use octets::{Fault, Order, Tag, same};
 #[repr(C)]
 #[derive(Clone, Copy)]
 pub struct TwoPassState {
-    // The state of the reading or the pass.
-    pub(crate) pass: PassState,
+    /// The state of the reading or the pass, which [`crate::KeyAndNonce::begin`] sets before a message begins.
+    pub pass: PassState,
     // The sum of the hash over the padded associated data, where both readings or passes begin.
     pub(crate) start: SumWords,
     // The tag of the first text, in the second reading; or the tag of the sealing, in both passes.
