@@ -8,4 +8,3 @@ pub mod Sealers
 pub mod Sivs
 pub mod Openers
 pub mod Facts
-pub mod Saved

@@ -7,14 +7,12 @@ ghost use Rattle.octets.specs.Numbers.{HasOutcome};
 ghost use Rattle.aead.specs.declared.suite.Suite.{Suite};
 ghost use Rattle.aead.specs.Suites.{text_limit, suite_number};
 ghost use Rattle.aead.specs.Sealing.{Setting};
-ghost use Rattle.aead.specs.Pieces.{IsInFirstPass, IsInSecondPass, MasksByBytes};
+ghost use Rattle.aead.specs.Pieces.{MasksByBytes};
 ghost use Rattle.aead.specs.KeyedPasses.{setting_of, BeginRefused, HasBegun};
 ghost use Rattle.capi.specs.Suites.{unknown_suite, not_begun, FitsOr, IsDoneOr};
-ghost use Rattle.capi.specs.Openers.{checking, opening, NotIn, zeros, HoldsChecking, HoldsOpening};
+ghost use Rattle.capi.specs.Openers.{checking, opening, NotIn, zeros, HoldsChecking};
 ghost use Rattle.capi.specs.Openers.{Checks, BeginsSecond, Decrypts, Ends};
-ghost use Rattle.capi.specs.Saved.{NotMarked, Resumes};
 
-use crate::saved::SavedPasses;
 use crate::suites::{NOT_BEGUN, UNKNOWN_SUITE, mark_of, marked, suite_numbered};
 use aead::{KeyAndNonce, Suite, TwoPassState};
 use aes::KnownBlock;
@@ -72,18 +70,6 @@ impl StoredOpener {
             }
             Err(fault) => outcome_number(Err(fault)),
         }
-    }
-}
-
-// Returns the suite of a mark, if it is the mark of an opening in either pass.
-fn in_a_pass(mark: u64) -> Option<Suite>
-    ensures first { (suite : Suite) → mark ≡ checking + suite_number suite → result ≡ Some suite }
-    ensures second { (suite : Suite) → mark ≡ opening + suite_number suite → result ≡ Some suite }
-    ensures none { NotMarked checking mark → NotMarked opening mark → result ≡ None }
-{
-    match marked(CHECKING, mark) {
-        Some(suite) => Some(suite),
-        None => marked(OPENING, mark),
     }
 }
 
@@ -205,69 +191,6 @@ pub extern "C" fn aeadkit_opener_finish(opener: &mut StoredOpener) -> u32
     let outcome = opener.state.end_pass(&keys);
     *opener = StoredOpener::zeros();
     outcome_number(outcome)
-}
-
-/// Saves the opening, in either pass, in `saved`, without its key and nonce, for `aeadkit_opener_resume`. The opening itself
-/// stays as it is. Returns 0, or `NOT_BEGUN` if no opening is begun in the struct. Then `saved` is as before.
-#[unsafe(no_mangle)]
-pub extern "C" fn aeadkit_opener_save(opener: &StoredOpener, saved: &mut SavedPasses) -> u32
-    ensures first { (s : Setting) (tag bytes : List ℕ) → HoldsChecking opener.now s tag bytes
-        → (result ≡ 0) × (saved.new.mark ≡ opener.now.mark) × IsInFirstPass saved.new.state s tag bytes }
-    ensures second { (s : Setting) (tag : List ℕ) (first : ℕ) (bytes : List ℕ)
-        → HoldsOpening opener.now s tag first bytes
-        → (result ≡ 0) × (saved.new.mark ≡ opener.now.mark) × IsInSecondPass saved.new.state s tag first bytes }
-    ensures state { result ≡ 0 → saved.new.state ≡ opener.now.state }
-    ensures not_begun { NotIn checking opener.now → NotIn opening opener.now → result ≡ not_begun }
-    ensures kept { result ≢ 0 → saved.new ≡ saved.old }
-    ensures checks { (suite : Suite) → opener.now.mark ≡ checking + suite_number suite → result ≡ 0 }
-    ensures opens { (suite : Suite) → opener.now.mark ≡ opening + suite_number suite → result ≡ 0 }
-{
-    let Some(_) = in_a_pass(opener.mark) else {
-        return NOT_BEGUN;
-    };
-    *saved = SavedPasses {
-        mark: opener.mark,
-        state: opener.state,
-    };
-    outcome_number(Ok(()))
-}
-
-/// Resumes a saved opening, in the pass that it was in, under the key and the nonce that it was begun with. What the struct held
-/// before makes no difference. Returns 0, or the first of these that applies: `NOT_BEGUN` if `saved` does not have the mark of an
-/// opening, `KeyLength` if the key does not have the suite's length, `NonceLength` if the nonce is not 12 bytes long,
-/// `TagMismatch` if the opening was saved under another key or nonce. On each of them zeros are left in the struct.
-#[unsafe(no_mangle)]
-pub extern "C" fn aeadkit_opener_resume(
-    opener: &mut StoredOpener,
-    key: &[u8],
-    nonce: &[u8],
-    saved: &SavedPasses,
-) -> u32
-    ensures first { (suite : Suite) → saved.now.mark ≡ checking + suite_number suite
-        → Resumes result saved.now.state.pass suite key.now nonce.now (λ s. (tag bytes : List ℕ)
-        → IsInFirstPass saved.now.state s tag bytes → HoldsChecking opener.new s tag bytes) }
-    ensures second { (suite : Suite) → saved.now.mark ≡ opening + suite_number suite
-        → Resumes result saved.now.state.pass suite key.now nonce.now (λ s. (tag : List ℕ) (first : ℕ) (bytes : List ℕ)
-        → IsInSecondPass saved.now.state s tag first bytes → HoldsOpening opener.new s tag first bytes) }
-    ensures not_begun { NotMarked checking saved.now.mark → NotMarked opening saved.now.mark
-        → result ≡ not_begun }
-    ensures refused { result ≢ 0 → opener.new ≡ zeros }
-{
-    *opener = StoredOpener::zeros();
-    let Some(suite) = in_a_pass(saved.mark) else {
-        return NOT_BEGUN;
-    };
-    match KeyAndNonce::resumed(suite, key, nonce, &saved.state.pass) {
-        Ok(keys) => {
-            *opener = StoredOpener {
-                mark: saved.mark,
-                keys,
-                state: saved.state,
-            };
-            outcome_number(Ok(()))
-        }
-        Err(fault) => outcome_number(Err(fault)),
-    }
 }
 
 /// Leaves zeros in the struct, whatever bytes it held: for an opening that is given up. Its key is then no longer in the struct.

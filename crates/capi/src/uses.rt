@@ -9,13 +9,10 @@ ghost use Rattle.aead.specs.KeyedPasses.{setting_of};
 
 use crate::opener::{
     StoredOpener, aeadkit_opener_begin_second, aeadkit_opener_check, aeadkit_opener_finish,
-    aeadkit_opener_init, aeadkit_opener_resume, aeadkit_opener_save, aeadkit_opener_update,
-    aeadkit_opener_wipe,
+    aeadkit_opener_init, aeadkit_opener_update,
 };
-use crate::saved::{SavedPasses, SavedSealer};
 use crate::sealer::{
-    StoredSealer, aeadkit_sealer_finish, aeadkit_sealer_init, aeadkit_sealer_resume,
-    aeadkit_sealer_save, aeadkit_sealer_update, aeadkit_sealer_wipe,
+    StoredSealer, aeadkit_sealer_finish, aeadkit_sealer_init, aeadkit_sealer_update,
 };
 use crate::siv::{
     StoredSiv, aeadkit_siv_absorb, aeadkit_siv_begin_second, aeadkit_siv_finish, aeadkit_siv_init,
@@ -52,49 +49,6 @@ fn sealed_in_two(
         return two;
     }
     aeadkit_sealer_finish(sealer, tag)
-}
-
-// Seals a text in two pieces as `sealed_in_two` does, but saves the sealing after the first piece, wipes it, and goes on in
-// another struct: the ciphertext and the tag are the same sealing.
-fn sealed_over_a_save(
-    sealer: &mut StoredSealer,
-    saved: &mut SavedSealer,
-    resumed: &mut StoredSealer,
-    suite: u32,
-    key: &[u8],
-    nonce: &[u8],
-    aad: &[u8],
-    first: &mut [u8],
-    second: &mut [u8],
-    tag: &mut [u8; 16],
-) -> u32
-    ensures { (named : Suite) → is_one_pass (construction_of named) ≡ true → suite ≡ suite_number named
-        → result ≡ 0 → (first.new ++ second.new) ++ tag.new
-        ≡ sealing (setting_of named key.now nonce.now aad.now) (first.old ++ second.old) }
-{
-    pieces_make_a_sealing();
-    let begun = aeadkit_sealer_init(sealer, suite, key, nonce, aad);
-    if begun != 0 {
-        return begun;
-    }
-    let one = aeadkit_sealer_update(sealer, first);
-    if one != 0 {
-        return one;
-    }
-    let kept = aeadkit_sealer_save(sealer, saved);
-    if kept != 0 {
-        return kept;
-    }
-    aeadkit_sealer_wipe(sealer);
-    let again = aeadkit_sealer_resume(resumed, key, nonce, saved);
-    if again != 0 {
-        return again;
-    }
-    let two = aeadkit_sealer_update(resumed, second);
-    if two != 0 {
-        return two;
-    }
-    aeadkit_sealer_finish(resumed, tag)
 }
 
 // Seals a text in two readings under AES-GCM-SIV, which may cut the text differently: the ciphertext that the second reading
@@ -186,56 +140,4 @@ fn opened_by_two_passes(
         return four;
     }
     aeadkit_opener_finish(opener)
-}
-
-// Opens a ciphertext as `opened_by_two_passes` does, but saves the opening between the passes, wipes it, and goes on in another
-// struct: the second pass still leaves the text of the sealing.
-fn opened_over_a_save(
-    opener: &mut StoredOpener,
-    saved: &mut SavedPasses,
-    resumed: &mut StoredOpener,
-    suite: u32,
-    key: &[u8],
-    nonce: &[u8],
-    aad: &[u8],
-    tag: &[u8; 16],
-    body: &[u8],
-    first: &mut [u8],
-    second: &mut [u8],
-) -> u32
-    ensures { (named : Suite) → suite ≡ suite_number named → result ≡ 0
-        → Opened (setting_of named key.now nonce.now aad.now) ((first.old ++ second.old) ++ tag.now)
-        (first.new ++ second.new) }
-{
-    masked_pieces_join();
-    let begun = aeadkit_opener_init(opener, suite, key, nonce, aad, tag);
-    if begun != 0 {
-        return begun;
-    }
-    let one = aeadkit_opener_check(opener, body);
-    if one != 0 {
-        return one;
-    }
-    let passed = aeadkit_opener_begin_second(opener);
-    if passed != 0 {
-        return passed;
-    }
-    let kept = aeadkit_opener_save(opener, saved);
-    if kept != 0 {
-        return kept;
-    }
-    aeadkit_opener_wipe(opener);
-    let again = aeadkit_opener_resume(resumed, key, nonce, saved);
-    if again != 0 {
-        return again;
-    }
-    let two = aeadkit_opener_update(resumed, first);
-    if two != 0 {
-        return two;
-    }
-    let three = aeadkit_opener_update(resumed, second);
-    if three != 0 {
-        return three;
-    }
-    aeadkit_opener_finish(resumed)
 }
