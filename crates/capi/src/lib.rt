@@ -5,7 +5,7 @@
 //!   struct keeps (`key`).
 //! - It makes one step of a sealing in one reading (`sealer`), a sealing in two readings (`siv`) or an opening in two passes
 //!   (`opener`). The state stands in a struct behind a mark.
-//! - It returns a fact about a suite, a status or the library (`facts`).
+//! - It returns a fact about a suite or the library (`facts`).
 //!
 //! A slice crosses as a pointer and a length, and a suite as its number. The status is 0, the number of a fault, 14 if the call
 //! takes no suite with the number, 15 if nothing is begun or kept in the struct, or 16 if the output is not as long as the
