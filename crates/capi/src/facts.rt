@@ -4,7 +4,7 @@ ghost use Rattle.std.specs.Prelude.{◌≡◌, ◌≢◌};
 ghost use Rattle.aead.specs.declared.suite.Suite.{Suite};
 ghost use Rattle.aead.specs.Suites.{key_length, text_limit, aad_limit, suite_number};
 
-use crate::suites::suite_numbered;
+use aead::Suite;
 
 /// Returns the length of a suite's key in bytes: 16, 24 or 32; 0 if no suite has the number.
 #[unsafe(no_mangle)]
@@ -12,7 +12,7 @@ pub extern "C" fn aeadkit_key_length(suite: u32) -> usize
     ensures known { (named : Suite) → suite ≡ suite_number named → result ≡ key_length named }
     ensures unknown { ((named : Suite) → suite ≢ suite_number named) → result ≡ 0 }
 {
-    match suite_numbered(u64::from(suite)) {
+    match Suite::from_number(suite) {
         Some(suite) => suite.key_length(),
         None => 0,
     }
@@ -25,7 +25,7 @@ pub extern "C" fn aeadkit_text_limit(suite: u32) -> u64
     ensures known { (named : Suite) → suite ≡ suite_number named → result ≡ text_limit named }
     ensures unknown { ((named : Suite) → suite ≢ suite_number named) → result ≡ 0 }
 {
-    match suite_numbered(u64::from(suite)) {
+    match Suite::from_number(suite) {
         Some(suite) => suite.text_limit(),
         None => 0,
     }
@@ -38,7 +38,7 @@ pub extern "C" fn aeadkit_aad_limit(suite: u32) -> u64
     ensures known { (named : Suite) → suite ≡ suite_number named → result ≡ aad_limit named }
     ensures unknown { ((named : Suite) → suite ≢ suite_number named) → result ≡ 0 }
 {
-    match suite_numbered(u64::from(suite)) {
+    match Suite::from_number(suite) {
         Some(suite) => suite.aad_limit(),
         None => 0,
     }

@@ -13,7 +13,7 @@ ghost use Rattle.capi.specs.Suites.{unknown_suite, not_begun, FitsOr, IsDoneOr};
 ghost use Rattle.capi.specs.Openers.{checking, opening, NotIn, zeros, HoldsChecking};
 ghost use Rattle.capi.specs.Openers.{Checks, BeginsSecond, Decrypts, Ends};
 
-use crate::suites::{NOT_BEGUN, UNKNOWN_SUITE, mark_of, marked, suite_numbered};
+use crate::suites::{NOT_BEGUN, UNKNOWN_SUITE, mark_of, marked};
 use aead::{KeyAndNonce, Suite, TwoPassState};
 use aes::KnownBlock;
 use octets::{Fault, outcome_number};
@@ -94,7 +94,7 @@ pub extern "C" fn aeadkit_opener_init(
     ensures refused { result ≢ 0 → opener.new ≡ zeros }
 {
     *opener = StoredOpener::zeros();
-    let Some(suite) = suite_numbered(u64::from(suite)) else {
+    let Some(suite) = Suite::from_number(suite) else {
         return UNKNOWN_SUITE;
     };
     let begun = opener

@@ -10,7 +10,7 @@ ghost use Rattle.aead.specs.KeyedPasses.{setting_of, BeginRefused, HasBegun};
 ghost use Rattle.capi.specs.Suites.{unknown_suite, not_begun, FitsOr};
 ghost use Rattle.capi.specs.Sealers.{sealer_mark, NotBegun, zeros, HoldsText, Updates};
 
-use crate::suites::{NOT_BEGUN, UNKNOWN_SUITE, mark_of, one_pass_marked, one_pass_numbered};
+use crate::suites::{NOT_BEGUN, UNKNOWN_SUITE, is_siv, mark_of, one_pass_marked};
 use aead::{KeyAndNonce, PassState, Suite};
 use aes::KnownBlock;
 use octets::{Fault, outcome_number};
@@ -81,9 +81,12 @@ pub extern "C" fn aeadkit_sealer_init(
     ensures refused { result ≢ 0 → sealer.new ≡ zeros }
 {
     *sealer = StoredSealer::zeros();
-    let Some(suite) = one_pass_numbered(u64::from(suite)) else {
+    let Some(suite) = Suite::from_number(suite) else {
         return UNKNOWN_SUITE;
     };
+    if is_siv(suite) {
+        return UNKNOWN_SUITE;
+    }
     let begun = sealer.keys.begin(&mut sealer.state, suite, key, nonce, aad);
     sealer.note_begun(suite, begun)
 }

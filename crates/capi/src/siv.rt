@@ -12,7 +12,7 @@ ghost use Rattle.capi.specs.Suites.{unknown_suite, not_begun, FitsOr, IsDoneOr};
 ghost use Rattle.capi.specs.Sivs.{absorbing, writing, NotIn, zeros, HoldsAbsorbing};
 ghost use Rattle.capi.specs.Sivs.{Absorbs, BeginsSecond, Encrypts, Ends};
 
-use crate::suites::{NOT_BEGUN, UNKNOWN_SUITE, mark_of, siv_marked, siv_numbered};
+use crate::suites::{NOT_BEGUN, UNKNOWN_SUITE, is_siv, mark_of, siv_marked};
 use aead::{KeyAndNonce, Suite, TwoPassState};
 use aes::KnownBlock;
 use octets::{Fault, outcome_number};
@@ -90,9 +90,12 @@ pub extern "C" fn aeadkit_siv_init(
     ensures refused { result ≢ 0 → siv.new ≡ zeros }
 {
     *siv = StoredSiv::zeros();
-    let Some(suite) = siv_numbered(u64::from(suite)) else {
+    let Some(suite) = Suite::from_number(suite) else {
         return UNKNOWN_SUITE;
     };
+    if !is_siv(suite) {
+        return UNKNOWN_SUITE;
+    }
     let begun = siv.keys.begin(&mut siv.state.pass, suite, key, nonce, aad);
     siv.note_begun(suite, begun)
 }

@@ -15,7 +15,7 @@ ghost use Rattle.capi.specs.Suites.{unknown_suite};
 ghost use Rattle.capi.specs.Whole.{WasSealed, WasNotSealed, WasOpened, WasNotOpened, SealsTo, OpensTo, LengthRefused};
 ghost use Rattle.capi.specs.Whole.{length_refuses};
 
-use crate::suites::{OUTPUT_LENGTH, UNKNOWN_SUITE, suite_numbered};
+use crate::suites::{OUTPUT_LENGTH, UNKNOWN_SUITE};
 use aead::{Aead, BorrowedGcm, ChaChaPoly, Construction, GcmSiv, Suite, hash_subkey};
 use aes::AesKey;
 use gf128::{Keyed128, TableMul};
@@ -327,7 +327,7 @@ pub extern "C" fn aeadkit_seal_in_place(
     ensures unknown { ((named : Suite) → suite ≢ suite_number named)
         → (result ≡ unknown_suite) × (text.new ≡ text.old) × (tag.new ≡ tag.old) }
 {
-    match suite_numbered(u64::from(suite)) {
+    match Suite::from_number(suite) {
         Some(suite) => {
             let keys = ByBytes { suite, key };
             outcome_number(run_in_place::<Sealing, ByBytes>(&keys, nonce, aad, text, tag))
@@ -356,7 +356,7 @@ pub extern "C" fn aeadkit_open_in_place(
     ensures unknown { ((named : Suite) → suite ≢ suite_number named)
         → (result ≡ unknown_suite) × (text.new ≡ text.old) }
 {
-    match suite_numbered(u64::from(suite)) {
+    match Suite::from_number(suite) {
         Some(suite) => {
             let keys = ByBytes { suite, key };
             let mut given = *tag;
@@ -388,7 +388,7 @@ pub extern "C" fn aeadkit_seal(
     ensures unknown { ((named : Suite) → suite ≢ suite_number named)
         → (result ≡ unknown_suite) × (sealed.new ≡ sealed.old) }
 {
-    match suite_numbered(u64::from(suite)) {
+    match Suite::from_number(suite) {
         Some(suite) => seal_to(&ByBytes { suite, key }, nonce, aad, text, sealed),
         None => UNKNOWN_SUITE,
     }
@@ -413,7 +413,7 @@ pub extern "C" fn aeadkit_open(
     ensures unknown { ((named : Suite) → suite ≢ suite_number named)
         → (result ≡ unknown_suite) × (text.new ≡ text.old) }
 {
-    match suite_numbered(u64::from(suite)) {
+    match Suite::from_number(suite) {
         Some(suite) => open_to(&ByBytes { suite, key }, nonce, aad, sealed, text),
         None => UNKNOWN_SUITE,
     }
