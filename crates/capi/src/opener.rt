@@ -109,6 +109,8 @@ pub extern "C" fn aeadkit_opener_init(
 pub extern "C" fn aeadkit_opener_check(opener: &mut StoredOpener, piece: &[u8]) -> u32
     ensures holds { (s : Setting) (tag bytes : List ℕ)
         → Checks opener.old opener.new piece.now result s tag bytes }
+    ensures same_pass { opener.new.mark ≡ opener.old.mark }
+    ensures same_keys { opener.new.keys ≡ opener.old.keys }
     ensures not_begun { NotIn checking opener.old → result ≡ not_begun }
     ensures kept { result ≢ 0 → opener.new ≡ opener.old }
     ensures status { (suite : Suite) → opener.old.mark ≡ checking + suite_number suite
@@ -128,6 +130,7 @@ pub extern "C" fn aeadkit_opener_check(opener: &mut StoredOpener, piece: &[u8]) 
 #[unsafe(no_mangle)]
 pub extern "C" fn aeadkit_opener_begin_second(opener: &mut StoredOpener) -> u32
     ensures holds { (s : Setting) (tag bytes : List ℕ) → BeginsSecond opener.old opener.new result s tag bytes }
+    ensures same_keys { result ≡ 0 → opener.new.keys ≡ opener.old.keys }
     ensures not_begun { NotIn checking opener.old → (result ≡ not_begun) × (opener.new ≡ opener.old) }
     ensures refused { result ≢ 0 → result ≢ not_begun → opener.new ≡ zeros }
     ensures kept { result ≡ not_begun → opener.new ≡ opener.old }
@@ -157,6 +160,8 @@ pub extern "C" fn aeadkit_opener_begin_second(opener: &mut StoredOpener) -> u32
 pub extern "C" fn aeadkit_opener_update(opener: &mut StoredOpener, piece: &mut [u8]) -> u32
     ensures holds { (s : Setting) (tag : List ℕ) (first : ℕ) (bytes : List ℕ)
         → Decrypts opener.old opener.new piece.old piece.new result s tag first bytes }
+    ensures same_pass { opener.new.mark ≡ opener.old.mark }
+    ensures same_keys { opener.new.keys ≡ opener.old.keys }
     ensures not_begun { NotIn opening opener.old → result ≡ not_begun }
     ensures kept { result ≢ 0 → (opener.new ≡ opener.old) × (piece.new ≡ piece.old) }
     ensures status { (suite : Suite) → opener.old.mark ≡ opening + suite_number suite

@@ -98,6 +98,8 @@ pub extern "C" fn aeadkit_sealer_init(
 pub extern "C" fn aeadkit_sealer_update(sealer: &mut StoredSealer, piece: &mut [u8]) -> u32
     ensures holds { (s : Setting) (text : List ℕ)
         → Updates sealer.old sealer.new piece.old piece.new result s text }
+    ensures same_pass { sealer.new.mark ≡ sealer.old.mark }
+    ensures same_keys { sealer.new.keys ≡ sealer.old.keys }
     ensures not_begun { NotBegun sealer.old → result ≡ not_begun }
     ensures kept { result ≢ 0 → (sealer.new ≡ sealer.old) × (piece.new ≡ piece.old) }
     ensures status { (suite : Suite) → is_one_pass (construction_of suite) ≡ true

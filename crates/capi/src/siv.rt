@@ -105,6 +105,8 @@ pub extern "C" fn aeadkit_siv_init(
 #[unsafe(no_mangle)]
 pub extern "C" fn aeadkit_siv_absorb(siv: &mut StoredSiv, piece: &[u8]) -> u32
     ensures holds { (s : Setting) (text : List ℕ) → Absorbs siv.old siv.new piece.now result s text }
+    ensures same_pass { siv.new.mark ≡ siv.old.mark }
+    ensures same_keys { siv.new.keys ≡ siv.old.keys }
     ensures not_begun { NotIn absorbing siv.old → result ≡ not_begun }
     ensures kept { result ≢ 0 → siv.new ≡ siv.old }
     ensures status { (suite : Suite) → construction_of suite ≡ ByGcmSiv
@@ -123,6 +125,7 @@ pub extern "C" fn aeadkit_siv_absorb(siv: &mut StoredSiv, piece: &[u8]) -> u32
 #[unsafe(no_mangle)]
 pub extern "C" fn aeadkit_siv_begin_second(siv: &mut StoredSiv, tag: &mut [u8; 16]) -> u32
     ensures holds { (s : Setting) (text : List ℕ) → BeginsSecond siv.old siv.new tag.new result s text }
+    ensures same_keys { siv.new.keys ≡ siv.old.keys }
     ensures not_begun { NotIn absorbing siv.old → result ≡ not_begun }
     ensures kept { result ≢ 0 → (siv.new ≡ siv.old) × (tag.new ≡ tag.old) }
     ensures status { (suite : Suite) → construction_of suite ≡ ByGcmSiv
@@ -144,6 +147,8 @@ pub extern "C" fn aeadkit_siv_begin_second(siv: &mut StoredSiv, tag: &mut [u8; 1
 pub extern "C" fn aeadkit_siv_update(siv: &mut StoredSiv, piece: &mut [u8]) -> u32
     ensures holds { (s : Setting) (first text : List ℕ)
         → Encrypts siv.old siv.new piece.old piece.new result s first text }
+    ensures same_pass { siv.new.mark ≡ siv.old.mark }
+    ensures same_keys { siv.new.keys ≡ siv.old.keys }
     ensures not_begun { NotIn writing siv.old → result ≡ not_begun }
     ensures kept { result ≢ 0 → (siv.new ≡ siv.old) × (piece.new ≡ piece.old) }
     ensures status { (suite : Suite) → construction_of suite ≡ ByGcmSiv
