@@ -1,5 +1,4 @@
 mod Outcomes
 mod Refused
 mod Marks
-mod Names
 mod Tested

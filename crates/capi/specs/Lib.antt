@@ -7,5 +7,3 @@ pub mod StoredKeys
 pub mod Sealers
 pub mod Sivs
 pub mod Openers
-pub mod Facts
-pub mod Saved

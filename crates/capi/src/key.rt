@@ -19,7 +19,7 @@ use crate::opener::StoredOpener;
 use crate::sealer::StoredSealer;
 use crate::siv::StoredSiv;
 use crate::stored_key::{KEY, KeyNumbers, StoredKey};
-use crate::suites::{NOT_BEGUN, UNKNOWN_SUITE, is_siv, marked, suite_numbered};
+use crate::suites::{NOT_BEGUN, UNKNOWN_SUITE, is_siv, marked};
 use crate::whole::{Direction, Keys, Opening, Sealing, open_to, run_in_place, seal_to};
 use aead::{BorrowedGcm, ChaChaPoly, Construction, GcmSiv, KeyAndNonce, PassState, Suite};
 use octets::{Fault, Key32, Nonce, outcome_number};
@@ -73,12 +73,8 @@ impl<'a> Keys for ByKept<'a> {
         self.suite
     }
 
-    // A kept key always has its suite's length. The comparison shows this to the prover, and the compiler leaves it out.
-    fn check_key(&self) -> Result<(), Fault> {
-        if self.kept.key(self.suite).len() != self.suite.key_length() {
-            return Err(Fault::KeyLength);
-        }
-        Ok(())
+    fn key(&self) -> &[u8] {
+        self.kept.key(self.suite)
     }
 
     fn run<D: Direction>(
@@ -142,7 +138,7 @@ pub extern "C" fn aeadkit_key_init(kept: &mut KeyNumbers, suite: u32, key: &[u8]
     ensures cleared { result ≢ 0 → IsCleared kept.new }
 {
     aeadkit_key_wipe(kept);
-    let Some(suite) = suite_numbered(u64::from(suite)) else {
+    let Some(suite) = Suite::from_number(suite) else {
         return UNKNOWN_SUITE;
     };
     if key.len() != suite.key_length() {

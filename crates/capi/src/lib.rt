@@ -4,8 +4,8 @@
 //! - It seals or opens a whole message, in place or into another output, under the bytes of a key (`whole`) or under a key that a
 //!   struct keeps (`key`).
 //! - It makes one step of a sealing in one reading (`sealer`), a sealing in two readings (`siv`) or an opening in two passes
-//!   (`opener`). The state stands in a struct behind a mark, and can be saved and resumed.
-//! - It returns a fact about a suite, a status or the library (`facts`).
+//!   (`opener`). The state stands in a struct behind a mark.
+//! - It returns a fact about a suite or the library (`facts`).
 //!
 //! A slice crosses as a pointer and a length, and a suite as its number. The status is 0, the number of a fault, 14 if the call
 //! takes no suite with the number, 15 if nothing is begun or kept in the struct, or 16 if the output is not as long as the
@@ -24,7 +24,6 @@ mod facts;
 mod key;
 mod key_wrap;
 mod opener;
-mod saved;
 mod sealer;
 mod siv;
 mod stored_key;

@@ -7,15 +7,13 @@ ghost use Rattle.octets.specs.Numbers.{HasOutcome};
 ghost use Rattle.aead.specs.declared.suite.Suite.{Suite};
 ghost use Rattle.aead.specs.Suites.{text_limit, suite_number};
 ghost use Rattle.aead.specs.Sealing.{Setting};
-ghost use Rattle.aead.specs.Pieces.{IsInFirstPass, IsInSecondPass, MasksByBytes};
+ghost use Rattle.aead.specs.Pieces.{MasksByBytes};
 ghost use Rattle.aead.specs.KeyedPasses.{setting_of, BeginRefused, HasBegun};
 ghost use Rattle.capi.specs.Suites.{unknown_suite, not_begun, FitsOr, IsDoneOr};
-ghost use Rattle.capi.specs.Openers.{checking, opening, NotIn, zeros, HoldsChecking, HoldsOpening};
+ghost use Rattle.capi.specs.Openers.{checking, opening, NotIn, zeros, HoldsChecking};
 ghost use Rattle.capi.specs.Openers.{Checks, BeginsSecond, Decrypts, Ends};
-ghost use Rattle.capi.specs.Saved.{NotMarked, Resumes};
 
-use crate::saved::SavedPasses;
-use crate::suites::{NOT_BEGUN, UNKNOWN_SUITE, mark_of, marked, suite_numbered};
+use crate::suites::{NOT_BEGUN, UNKNOWN_SUITE, mark_of, marked};
 use aead::{KeyAndNonce, Suite, TwoPassState};
 use aes::KnownBlock;
 use octets::{Fault, outcome_number};
@@ -75,18 +73,6 @@ impl StoredOpener {
     }
 }
 
-// Returns the suite of a mark, if it is the mark of an opening in either pass.
-fn in_a_pass(mark: u64) -> Option<Suite>
-    ensures first { (suite : Suite) → mark ≡ checking + suite_number suite → result ≡ Some suite }
-    ensures second { (suite : Suite) → mark ≡ opening + suite_number suite → result ≡ Some suite }
-    ensures none { NotMarked checking mark → NotMarked opening mark → result ≡ None }
-{
-    match marked(CHECKING, mark) {
-        Some(suite) => Some(suite),
-        None => marked(OPENING, mark),
-    }
-}
-
 /// Begins the first pass of an opening in pieces (RFC 8439, 2.8; SP 800-38D, 7.2; RFC 8452, 5), which has taken in nothing yet.
 /// `tag` is the last 16 bytes of the sealing. What the struct held before makes no difference. Returns 0, or the first of these
 /// that applies: `UNKNOWN_SUITE` if no suite has the number, `KeyLength` if the key does not have the suite's length,
@@ -108,7 +94,7 @@ pub extern "C" fn aeadkit_opener_init(
     ensures refused { result ≢ 0 → opener.new ≡ zeros }
 {
     *opener = StoredOpener::zeros();
-    let Some(suite) = suite_numbered(u64::from(suite)) else {
+    let Some(suite) = Suite::from_number(suite) else {
         return UNKNOWN_SUITE;
     };
     let begun = opener
@@ -123,6 +109,8 @@ pub extern "C" fn aeadkit_opener_init(
 pub extern "C" fn aeadkit_opener_check(opener: &mut StoredOpener, piece: &[u8]) -> u32
     ensures holds { (s : Setting) (tag bytes : List ℕ)
         → Checks opener.old opener.new piece.now result s tag bytes }
+    ensures same_pass { opener.new.mark ≡ opener.old.mark }
+    ensures same_keys { opener.new.keys ≡ opener.old.keys }
     ensures not_begun { NotIn checking opener.old → result ≡ not_begun }
     ensures kept { result ≢ 0 → opener.new ≡ opener.old }
     ensures status { (suite : Suite) → opener.old.mark ≡ checking + suite_number suite
@@ -142,6 +130,7 @@ pub extern "C" fn aeadkit_opener_check(opener: &mut StoredOpener, piece: &[u8]) 
 #[unsafe(no_mangle)]
 pub extern "C" fn aeadkit_opener_begin_second(opener: &mut StoredOpener) -> u32
     ensures holds { (s : Setting) (tag bytes : List ℕ) → BeginsSecond opener.old opener.new result s tag bytes }
+    ensures same_keys { result ≡ 0 → opener.new.keys ≡ opener.old.keys }
     ensures not_begun { NotIn checking opener.old → (result ≡ not_begun) × (opener.new ≡ opener.old) }
     ensures refused { result ≢ 0 → result ≢ not_begun → opener.new ≡ zeros }
     ensures kept { result ≡ not_begun → opener.new ≡ opener.old }
@@ -171,6 +160,8 @@ pub extern "C" fn aeadkit_opener_begin_second(opener: &mut StoredOpener) -> u32
 pub extern "C" fn aeadkit_opener_update(opener: &mut StoredOpener, piece: &mut [u8]) -> u32
     ensures holds { (s : Setting) (tag : List ℕ) (first : ℕ) (bytes : List ℕ)
         → Decrypts opener.old opener.new piece.old piece.new result s tag first bytes }
+    ensures same_pass { opener.new.mark ≡ opener.old.mark }
+    ensures same_keys { opener.new.keys ≡ opener.old.keys }
     ensures not_begun { NotIn opening opener.old → result ≡ not_begun }
     ensures kept { result ≢ 0 → (opener.new ≡ opener.old) × (piece.new ≡ piece.old) }
     ensures status { (suite : Suite) → opener.old.mark ≡ opening + suite_number suite
@@ -205,69 +196,6 @@ pub extern "C" fn aeadkit_opener_finish(opener: &mut StoredOpener) -> u32
     let outcome = opener.state.end_pass(&keys);
     *opener = StoredOpener::zeros();
     outcome_number(outcome)
-}
-
-/// Saves the opening, in either pass, in `saved`, without its key and nonce, for `aeadkit_opener_resume`. The opening itself
-/// stays as it is. Returns 0, or `NOT_BEGUN` if no opening is begun in the struct. Then `saved` is as before.
-#[unsafe(no_mangle)]
-pub extern "C" fn aeadkit_opener_save(opener: &StoredOpener, saved: &mut SavedPasses) -> u32
-    ensures first { (s : Setting) (tag bytes : List ℕ) → HoldsChecking opener.now s tag bytes
-        → (result ≡ 0) × (saved.new.mark ≡ opener.now.mark) × IsInFirstPass saved.new.state s tag bytes }
-    ensures second { (s : Setting) (tag : List ℕ) (first : ℕ) (bytes : List ℕ)
-        → HoldsOpening opener.now s tag first bytes
-        → (result ≡ 0) × (saved.new.mark ≡ opener.now.mark) × IsInSecondPass saved.new.state s tag first bytes }
-    ensures state { result ≡ 0 → saved.new.state ≡ opener.now.state }
-    ensures not_begun { NotIn checking opener.now → NotIn opening opener.now → result ≡ not_begun }
-    ensures kept { result ≢ 0 → saved.new ≡ saved.old }
-    ensures checks { (suite : Suite) → opener.now.mark ≡ checking + suite_number suite → result ≡ 0 }
-    ensures opens { (suite : Suite) → opener.now.mark ≡ opening + suite_number suite → result ≡ 0 }
-{
-    let Some(_) = in_a_pass(opener.mark) else {
-        return NOT_BEGUN;
-    };
-    *saved = SavedPasses {
-        mark: opener.mark,
-        state: opener.state,
-    };
-    outcome_number(Ok(()))
-}
-
-/// Resumes a saved opening, in the pass that it was in, under the key and the nonce that it was begun with. What the struct held
-/// before makes no difference. Returns 0, or the first of these that applies: `NOT_BEGUN` if `saved` does not have the mark of an
-/// opening, `KeyLength` if the key does not have the suite's length, `NonceLength` if the nonce is not 12 bytes long,
-/// `TagMismatch` if the opening was saved under another key or nonce. On each of them zeros are left in the struct.
-#[unsafe(no_mangle)]
-pub extern "C" fn aeadkit_opener_resume(
-    opener: &mut StoredOpener,
-    key: &[u8],
-    nonce: &[u8],
-    saved: &SavedPasses,
-) -> u32
-    ensures first { (suite : Suite) → saved.now.mark ≡ checking + suite_number suite
-        → Resumes result saved.now.state.pass suite key.now nonce.now (λ s. (tag bytes : List ℕ)
-        → IsInFirstPass saved.now.state s tag bytes → HoldsChecking opener.new s tag bytes) }
-    ensures second { (suite : Suite) → saved.now.mark ≡ opening + suite_number suite
-        → Resumes result saved.now.state.pass suite key.now nonce.now (λ s. (tag : List ℕ) (first : ℕ) (bytes : List ℕ)
-        → IsInSecondPass saved.now.state s tag first bytes → HoldsOpening opener.new s tag first bytes) }
-    ensures not_begun { NotMarked checking saved.now.mark → NotMarked opening saved.now.mark
-        → result ≡ not_begun }
-    ensures refused { result ≢ 0 → opener.new ≡ zeros }
-{
-    *opener = StoredOpener::zeros();
-    let Some(suite) = in_a_pass(saved.mark) else {
-        return NOT_BEGUN;
-    };
-    match KeyAndNonce::resumed(suite, key, nonce, &saved.state.pass) {
-        Ok(keys) => {
-            *opener = StoredOpener {
-                mark: saved.mark,
-                keys,
-                state: saved.state,
-            };
-            outcome_number(Ok(()))
-        }
-        Err(fault) => outcome_number(Err(fault)),
-    }
 }
 
 /// Leaves zeros in the struct, whatever bytes it held: for an opening that is given up. Its key is then no longer in the struct.

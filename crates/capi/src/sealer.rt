@@ -6,14 +6,11 @@ ghost use Rattle.octets.specs.Numbers.{HasOutcome};
 ghost use Rattle.aead.specs.declared.suite.Suite.{Suite};
 ghost use Rattle.aead.specs.Suites.{construction_of, is_one_pass, text_limit, suite_number};
 ghost use Rattle.aead.specs.Sealing.{Setting, tag_of};
-ghost use Rattle.aead.specs.PassStates.{HoldsState};
 ghost use Rattle.aead.specs.KeyedPasses.{setting_of, BeginRefused, HasBegun};
 ghost use Rattle.capi.specs.Suites.{unknown_suite, not_begun, FitsOr};
 ghost use Rattle.capi.specs.Sealers.{sealer_mark, NotBegun, zeros, HoldsText, Updates};
-ghost use Rattle.capi.specs.Saved.{NotOfSealer, Resumes};
 
-use crate::saved::SavedSealer;
-use crate::suites::{NOT_BEGUN, UNKNOWN_SUITE, mark_of, one_pass_marked, one_pass_numbered};
+use crate::suites::{NOT_BEGUN, UNKNOWN_SUITE, is_siv, mark_of, one_pass_marked};
 use aead::{KeyAndNonce, PassState, Suite};
 use aes::KnownBlock;
 use octets::{Fault, outcome_number};
@@ -84,9 +81,12 @@ pub extern "C" fn aeadkit_sealer_init(
     ensures refused { result ≢ 0 → sealer.new ≡ zeros }
 {
     *sealer = StoredSealer::zeros();
-    let Some(suite) = one_pass_numbered(u64::from(suite)) else {
+    let Some(suite) = Suite::from_number(suite) else {
         return UNKNOWN_SUITE;
     };
+    if is_siv(suite) {
+        return UNKNOWN_SUITE;
+    }
     let begun = sealer.keys.begin(&mut sealer.state, suite, key, nonce, aad);
     sealer.note_begun(suite, begun)
 }
@@ -98,6 +98,8 @@ pub extern "C" fn aeadkit_sealer_init(
 pub extern "C" fn aeadkit_sealer_update(sealer: &mut StoredSealer, piece: &mut [u8]) -> u32
     ensures holds { (s : Setting) (text : List ℕ)
         → Updates sealer.old sealer.new piece.old piece.new result s text }
+    ensures same_pass { sealer.new.mark ≡ sealer.old.mark }
+    ensures same_keys { sealer.new.keys ≡ sealer.old.keys }
     ensures not_begun { NotBegun sealer.old → result ≡ not_begun }
     ensures kept { result ≢ 0 → (sealer.new ≡ sealer.old) × (piece.new ≡ piece.old) }
     ensures status { (suite : Suite) → is_one_pass (construction_of suite) ≡ true
@@ -136,66 +138,6 @@ pub extern "C" fn aeadkit_sealer_finish(sealer: &mut StoredSealer, tag: &mut [u8
     *tag = *sealer.state.tag_of_text(&keys).bytes();
     *sealer = StoredSealer::zeros();
     0
-}
-
-/// Saves the sealing in `saved`, without its key and nonce, for `aeadkit_sealer_resume`. The sealing itself stays as it is.
-/// Returns 0, or `NOT_BEGUN` if no sealing is begun in the struct. Then `saved` is as before.
-///
-/// Only one of the two may go on, and only once: otherwise two texts that begin alike are sealed under one nonce.
-#[unsafe(no_mangle)]
-pub extern "C" fn aeadkit_sealer_save(sealer: &StoredSealer, saved: &mut SavedSealer) -> u32
-    ensures holds { (s : Setting) (text : List ℕ) → HoldsText sealer.now s text
-        → (result ≡ 0) × (saved.new.mark ≡ sealer.now.mark) × HoldsState saved.new.state s text }
-    ensures state { result ≡ 0 → saved.new.state ≡ sealer.now.state }
-    ensures not_begun { NotBegun sealer.now → result ≡ not_begun }
-    ensures kept { result ≢ 0 → saved.new ≡ saved.old }
-    ensures status { (suite : Suite) → is_one_pass (construction_of suite) ≡ true
-        → sealer.now.mark ≡ sealer_mark suite → result ≡ 0 }
-{
-    let Some(suite) = one_pass_marked(SEALER, sealer.mark) else {
-        return NOT_BEGUN;
-    };
-    *saved = SavedSealer {
-        mark: mark_of(SEALER, suite),
-        state: sealer.state,
-    };
-    outcome_number(Ok(()))
-}
-
-/// Resumes a saved sealing, under the key and the nonce that it was begun with. What the struct held before makes no difference.
-/// Returns 0, or the first of these that applies: `NOT_BEGUN` if `saved` does not have the mark of a sealing in pieces,
-/// `KeyLength` if the key does not have the suite's length, `NonceLength` if the nonce is not 12 bytes long, `TagMismatch` if the
-/// sealing was saved under another key or nonce. On each of them zeros are left in the struct.
-///
-/// A saved sealing must be resumed only once: otherwise two texts that begin alike are sealed under one nonce.
-#[unsafe(no_mangle)]
-pub extern "C" fn aeadkit_sealer_resume(
-    sealer: &mut StoredSealer,
-    key: &[u8],
-    nonce: &[u8],
-    saved: &SavedSealer,
-) -> u32
-    ensures known { (suite : Suite) → is_one_pass (construction_of suite) ≡ true → saved.now.mark ≡ sealer_mark suite
-        → Resumes result saved.now.state suite key.now nonce.now (λ s. (text : List ℕ)
-        → HoldsState saved.now.state s text → HoldsText sealer.new s text) }
-    ensures not_begun { NotOfSealer saved.now.mark → result ≡ not_begun }
-    ensures refused { result ≢ 0 → sealer.new ≡ zeros }
-{
-    *sealer = StoredSealer::zeros();
-    let Some(suite) = one_pass_marked(SEALER, saved.mark) else {
-        return NOT_BEGUN;
-    };
-    match KeyAndNonce::resumed(suite, key, nonce, &saved.state) {
-        Ok(keys) => {
-            *sealer = StoredSealer {
-                mark: mark_of(SEALER, suite),
-                keys,
-                state: saved.state,
-            };
-            outcome_number(Ok(()))
-        }
-        Err(fault) => outcome_number(Err(fault)),
-    }
 }
 
 /// Leaves zeros in the struct, whatever bytes it held: for a sealing that is given up. Its key is then no longer in the struct.

@@ -7,15 +7,12 @@ ghost use Rattle.aead.specs.declared.suite.Suite.{Suite};
 ghost use Rattle.aead.specs.declared.suite.Construction.TheVariants.{GcmSiv as ByGcmSiv};
 ghost use Rattle.aead.specs.Suites.{construction_of, text_limit, suite_number};
 ghost use Rattle.aead.specs.Sealing.{Setting};
-ghost use Rattle.aead.specs.Pieces.{IsInFirstReading, IsInSecondReading};
 ghost use Rattle.aead.specs.KeyedPasses.{setting_of, BeginRefused, HasBegun};
 ghost use Rattle.capi.specs.Suites.{unknown_suite, not_begun, FitsOr, IsDoneOr};
-ghost use Rattle.capi.specs.Sivs.{absorbing, writing, NotIn, zeros, HoldsAbsorbing, HoldsWriting};
+ghost use Rattle.capi.specs.Sivs.{absorbing, writing, NotIn, zeros, HoldsAbsorbing};
 ghost use Rattle.capi.specs.Sivs.{Absorbs, BeginsSecond, Encrypts, Ends};
-ghost use Rattle.capi.specs.Saved.{NotOfSiv, Resumes};
 
-use crate::saved::SavedPasses;
-use crate::suites::{NOT_BEGUN, UNKNOWN_SUITE, mark_of, siv_marked, siv_numbered};
+use crate::suites::{NOT_BEGUN, UNKNOWN_SUITE, is_siv, mark_of, siv_marked};
 use aead::{KeyAndNonce, Suite, TwoPassState};
 use aes::KnownBlock;
 use octets::{Fault, outcome_number};
@@ -70,21 +67,6 @@ impl StoredSiv {
     }
 }
 
-// Returns the suite of a mark, if it is the mark of a sealing in either reading.
-fn in_a_reading(mark: u64) -> Option<Suite>
-    ensures first { (suite : Suite) → construction_of suite ≡ ByGcmSiv
-        → mark ≡ absorbing + suite_number suite → result ≡ Some suite }
-    ensures second { (suite : Suite) → construction_of suite ≡ ByGcmSiv
-        → mark ≡ writing + suite_number suite → result ≡ Some suite }
-    ensures none { NotOfSiv absorbing mark → NotOfSiv writing mark → result ≡ None }
-    ensures by { (suite : Suite) → result ≡ Some suite → construction_of suite ≡ ByGcmSiv }
-{
-    match siv_marked(ABSORBING, mark) {
-        Some(suite) => Some(suite),
-        None => siv_marked(WRITING, mark),
-    }
-}
-
 /// Begins the first reading of a sealing (RFC 8452, 4), which then holds the empty text. What the struct held before makes no
 /// difference. Returns 0, or the first of these that applies: `UNKNOWN_SUITE` if the number is not that of a suite of
 /// AES-GCM-SIV, `KeyLength` if the key does not have the suite's length, `NonceLength` if the nonce is not 12 bytes long,
@@ -108,9 +90,12 @@ pub extern "C" fn aeadkit_siv_init(
     ensures refused { result ≢ 0 → siv.new ≡ zeros }
 {
     *siv = StoredSiv::zeros();
-    let Some(suite) = siv_numbered(u64::from(suite)) else {
+    let Some(suite) = Suite::from_number(suite) else {
         return UNKNOWN_SUITE;
     };
+    if !is_siv(suite) {
+        return UNKNOWN_SUITE;
+    }
     let begun = siv.keys.begin(&mut siv.state.pass, suite, key, nonce, aad);
     siv.note_begun(suite, begun)
 }
@@ -120,6 +105,8 @@ pub extern "C" fn aeadkit_siv_init(
 #[unsafe(no_mangle)]
 pub extern "C" fn aeadkit_siv_absorb(siv: &mut StoredSiv, piece: &[u8]) -> u32
     ensures holds { (s : Setting) (text : List ℕ) → Absorbs siv.old siv.new piece.now result s text }
+    ensures same_pass { siv.new.mark ≡ siv.old.mark }
+    ensures same_keys { siv.new.keys ≡ siv.old.keys }
     ensures not_begun { NotIn absorbing siv.old → result ≡ not_begun }
     ensures kept { result ≢ 0 → siv.new ≡ siv.old }
     ensures status { (suite : Suite) → construction_of suite ≡ ByGcmSiv
@@ -138,6 +125,7 @@ pub extern "C" fn aeadkit_siv_absorb(siv: &mut StoredSiv, piece: &[u8]) -> u32
 #[unsafe(no_mangle)]
 pub extern "C" fn aeadkit_siv_begin_second(siv: &mut StoredSiv, tag: &mut [u8; 16]) -> u32
     ensures holds { (s : Setting) (text : List ℕ) → BeginsSecond siv.old siv.new tag.new result s text }
+    ensures same_keys { siv.new.keys ≡ siv.old.keys }
     ensures not_begun { NotIn absorbing siv.old → result ≡ not_begun }
     ensures kept { result ≢ 0 → (siv.new ≡ siv.old) × (tag.new ≡ tag.old) }
     ensures status { (suite : Suite) → construction_of suite ≡ ByGcmSiv
@@ -159,6 +147,8 @@ pub extern "C" fn aeadkit_siv_begin_second(siv: &mut StoredSiv, tag: &mut [u8; 1
 pub extern "C" fn aeadkit_siv_update(siv: &mut StoredSiv, piece: &mut [u8]) -> u32
     ensures holds { (s : Setting) (first text : List ℕ)
         → Encrypts siv.old siv.new piece.old piece.new result s first text }
+    ensures same_pass { siv.new.mark ≡ siv.old.mark }
+    ensures same_keys { siv.new.keys ≡ siv.old.keys }
     ensures not_begun { NotIn writing siv.old → result ≡ not_begun }
     ensures kept { result ≢ 0 → (siv.new ≡ siv.old) × (piece.new ≡ piece.old) }
     ensures status { (suite : Suite) → construction_of suite ≡ ByGcmSiv
@@ -193,76 +183,6 @@ pub extern "C" fn aeadkit_siv_finish(siv: &mut StoredSiv) -> u32
     let outcome = siv.state.end_reading(&keys);
     *siv = StoredSiv::zeros();
     outcome_number(outcome)
-}
-
-/// Saves the sealing, in either reading, in `saved`, without its keys and nonce, for `aeadkit_siv_resume`. The sealing itself
-/// stays as it is. Returns 0, or `NOT_BEGUN` if no sealing is begun in the struct. Then `saved` is as before.
-///
-/// Only one of the two may go on, and only once: otherwise two texts may be encrypted with one mask, which gives away their XOR.
-#[unsafe(no_mangle)]
-pub extern "C" fn aeadkit_siv_save(siv: &StoredSiv, saved: &mut SavedPasses) -> u32
-    ensures first { (s : Setting) (text : List ℕ) → HoldsAbsorbing siv.now s text
-        → (result ≡ 0) × (saved.new.mark ≡ siv.now.mark) × IsInFirstReading saved.new.state s text }
-    ensures second { (s : Setting) (first text : List ℕ) → HoldsWriting siv.now s first text
-        → (result ≡ 0) × (saved.new.mark ≡ siv.now.mark) × IsInSecondReading saved.new.state s first text }
-    ensures state { result ≡ 0 → saved.new.state ≡ siv.now.state }
-    ensures not_begun { NotIn absorbing siv.now → NotIn writing siv.now → result ≡ not_begun }
-    ensures kept { result ≢ 0 → saved.new ≡ saved.old }
-    ensures absorbs { (suite : Suite) → construction_of suite ≡ ByGcmSiv
-        → siv.now.mark ≡ absorbing + suite_number suite → result ≡ 0 }
-    ensures writes { (suite : Suite) → construction_of suite ≡ ByGcmSiv
-        → siv.now.mark ≡ writing + suite_number suite → result ≡ 0 }
-{
-    let Some(_) = in_a_reading(siv.mark) else {
-        return NOT_BEGUN;
-    };
-    *saved = SavedPasses {
-        mark: siv.mark,
-        state: siv.state,
-    };
-    outcome_number(Ok(()))
-}
-
-/// Resumes a saved sealing, in the reading that it was in, under the key and the nonce that it was begun with. What the struct
-/// held before makes no difference. Returns 0, or the first of these that applies: `NOT_BEGUN` if `saved` does not have the mark
-/// of a sealing in two readings, `KeyLength` if the key does not have the suite's length, `NonceLength` if the nonce is not 12
-/// bytes long, `TagMismatch` if the sealing was saved under another key or nonce. On each of them zeros are left in the struct.
-///
-/// A saved sealing must be resumed only once: otherwise two texts may be encrypted with one mask, which gives away their XOR.
-#[unsafe(no_mangle)]
-pub extern "C" fn aeadkit_siv_resume(
-    siv: &mut StoredSiv,
-    key: &[u8],
-    nonce: &[u8],
-    saved: &SavedPasses,
-) -> u32
-    ensures first { (suite : Suite) → construction_of suite ≡ ByGcmSiv
-        → saved.now.mark ≡ absorbing + suite_number suite
-        → Resumes result saved.now.state.pass suite key.now nonce.now (λ s. (text : List ℕ)
-        → IsInFirstReading saved.now.state s text → HoldsAbsorbing siv.new s text) }
-    ensures second { (suite : Suite) → construction_of suite ≡ ByGcmSiv
-        → saved.now.mark ≡ writing + suite_number suite
-        → Resumes result saved.now.state.pass suite key.now nonce.now (λ s. (first text : List ℕ)
-        → IsInSecondReading saved.now.state s first text → HoldsWriting siv.new s first text) }
-    ensures not_begun { NotOfSiv absorbing saved.now.mark → NotOfSiv writing saved.now.mark
-        → result ≡ not_begun }
-    ensures refused { result ≢ 0 → siv.new ≡ zeros }
-{
-    *siv = StoredSiv::zeros();
-    let Some(suite) = in_a_reading(saved.mark) else {
-        return NOT_BEGUN;
-    };
-    match KeyAndNonce::resumed(suite, key, nonce, &saved.state.pass) {
-        Ok(keys) => {
-            *siv = StoredSiv {
-                mark: saved.mark,
-                keys,
-                state: saved.state,
-            };
-            outcome_number(Ok(()))
-        }
-        Err(fault) => outcome_number(Err(fault)),
-    }
 }
 
 /// Leaves zeros in the struct, whatever bytes it held: for a sealing that is given up. Its keys are then no longer in the struct.

@@ -1,4 +1,4 @@
-//! The suites by the numbers that C gives, and the marks of the structs.
+//! The statuses that no fault has, and the marks of the structs.
 
 ghost use Rattle.std.specs.Prelude.{◌≡◌, ◌↔◌, ◌+◌, ◌<◌, ◌^◌, true, false};
 ghost use Rattle.aead.specs.declared.suite.Suite.{Suite};
@@ -17,38 +17,6 @@ pub(crate) const NOT_BEGUN: u32 = 15;
 // leaves a part of it unwritten.
 pub(crate) const OUTPUT_LENGTH: u32 = 16;
 
-// Returns the suite with a number, if there is one.
-pub(crate) fn suite_numbered(number: u64) -> Option<Suite>
-    ensures { (suite : Suite) → (result ≡ Some suite) ↔ (number ≡ suite_number suite) }
-{
-    match u32::try_from(number) {
-        Ok(number) => Suite::from_number(number),
-        Err(_) => None,
-    }
-}
-
-// Returns the suite with a number, if there is one and its tag is over the ciphertext.
-pub(crate) fn one_pass_numbered(number: u64) -> Option<Suite>
-    ensures { (suite : Suite) → (result ≡ Some suite)
-        ↔ (is_one_pass (construction_of suite) ≡ true × (number ≡ suite_number suite)) }
-{
-    match suite_numbered(number) {
-        Some(suite) if is_siv(suite) => None,
-        found => found,
-    }
-}
-
-// Returns the suite with a number, if there is one and it is one of AES-GCM-SIV.
-pub(crate) fn siv_numbered(number: u64) -> Option<Suite>
-    ensures { (suite : Suite) → (result ≡ Some suite)
-        ↔ ((construction_of suite ≡ ByGcmSiv) × (number ≡ suite_number suite)) }
-{
-    match suite_numbered(number) {
-        Some(suite) if is_siv(suite) => Some(suite),
-        _ => None,
-    }
-}
-
 // Returns the mark of a struct of this kind under a suite.
 pub(crate) fn mark_of(kind: u64, suite: Suite) -> u64
     requires { kind < 2 ^ 63 }
@@ -61,9 +29,9 @@ pub(crate) fn mark_of(kind: u64, suite: Suite) -> u64
 pub(crate) fn marked(kind: u64, mark: u64) -> Option<Suite>
     ensures { (suite : Suite) → (result ≡ Some suite) ↔ (mark ≡ kind + suite_number suite) }
 {
-    match mark.checked_sub(kind) {
-        Some(number) => suite_numbered(number),
-        None => None,
+    match u32::try_from(mark.checked_sub(kind)?) {
+        Ok(number) => Suite::from_number(number),
+        Err(_) => None,
     }
 }
 
@@ -72,9 +40,9 @@ pub(crate) fn one_pass_marked(kind: u64, mark: u64) -> Option<Suite>
     ensures { (suite : Suite) → (result ≡ Some suite)
         ↔ (is_one_pass (construction_of suite) ≡ true × (mark ≡ kind + suite_number suite)) }
 {
-    match mark.checked_sub(kind) {
-        Some(number) => one_pass_numbered(number),
-        None => None,
+    match marked(kind, mark) {
+        Some(suite) if is_siv(suite) => None,
+        found => found,
     }
 }
 
@@ -83,9 +51,9 @@ pub(crate) fn siv_marked(kind: u64, mark: u64) -> Option<Suite>
     ensures { (suite : Suite) → (result ≡ Some suite)
         ↔ ((construction_of suite ≡ ByGcmSiv) × (mark ≡ kind + suite_number suite)) }
 {
-    match mark.checked_sub(kind) {
-        Some(number) => siv_numbered(number),
-        None => None,
+    match marked(kind, mark) {
+        Some(suite) if is_siv(suite) => Some(suite),
+        _ => None,
     }
 }
 

@@ -2,20 +2,20 @@
 //! another output. No input has room for the tag: a caller who forgot that room would lose 16 bytes of the text. A call with
 //! the bytes of a key computes anew the values that depend on the key alone.
 
-ghost use Rattle.std.specs.Prelude.{◌≡◌, ◌≢◌, ◌≤◌, ◌++◌, ℕ, List, length, refl, MatchResult};
+ghost use Rattle.std.specs.Prelude.{◌≡◌, ◌≢◌, ◌≤◌, ℕ, List, length, refl, MatchResult};
 ghost use Rattle.octets.specs.declared.fault.Fault.{Fault};
 ghost use Rattle.octets.specs.Numbers.{HasOutcome};
 ghost use Rattle.aead.specs.declared.suite.Suite.{Suite};
 ghost use Rattle.aead.specs.declared.suite.Construction.TheVariants.{Gcm as ByGcm};
 ghost use Rattle.aead.specs.Suites.{construction_of, key_length, aad_limit, text_limit, suite_number};
-ghost use Rattle.aead.specs.Sealing.{Setting, hash_key};
+ghost use Rattle.aead.specs.Sealing.{Setting};
 ghost use Rattle.aead.specs.Ciphers.{Keyed, setting};
 ghost use Rattle.aead.specs.KeyedPasses.{setting_of, HasLengths, BeginRefused};
 ghost use Rattle.capi.specs.Suites.{unknown_suite};
 ghost use Rattle.capi.specs.Whole.{WasSealed, WasNotSealed, WasOpened, WasNotOpened, SealsTo, OpensTo, LengthRefused};
 ghost use Rattle.capi.specs.Whole.{length_refuses};
 
-use crate::suites::{OUTPUT_LENGTH, UNKNOWN_SUITE, suite_numbered};
+use crate::suites::{OUTPUT_LENGTH, UNKNOWN_SUITE};
 use aead::{Aead, BorrowedGcm, ChaChaPoly, Construction, GcmSiv, Suite, hash_subkey};
 use aes::AesKey;
 use gf128::{Keyed128, TableMul};
@@ -111,10 +111,9 @@ pub(crate) trait Keys {
     fn suite(&self) -> Suite
         ensures { result ≡ (keyed self.now).suite };
 
-    // Returns `KeyLength`, the only fault, if the key does not have the suite's length.
-    fn check_key(&self) -> Result<(), Fault>
-        ensures { let k = keyed self.now in MatchResult result (λ _. length k.key ≡ key_length k.suite)
-            (λ e. (e ≡ Fault.KeyLength) × (length k.key ≢ key_length k.suite)) };
+    // The bytes of the key.
+    fn key(&self) -> &[u8]
+        ensures { result.now ≡ (keyed self.now).key };
 
     // Seals or opens with a nonce, once all lengths are known to fit.
     fn run<D: Direction>(
@@ -164,7 +163,7 @@ fn run_gcm<D: Direction>(
 
 // A suite and the bytes of a key.
 #[derive(Drop)]
-pub(crate) struct ByBytes<'a> {
+struct ByBytes<'a> {
     suite: Suite,
     key: &'a [u8],
 }
@@ -176,11 +175,8 @@ impl<'a> Keys for ByBytes<'a> {
         self.suite
     }
 
-    fn check_key(&self) -> Result<(), Fault> {
-        if self.key.len() != self.suite.key_length() {
-            return Err(Fault::KeyLength);
-        }
-        Ok(())
+    fn key(&self) -> &[u8] {
+        self.key
     }
 
     // Each arm makes the cipher of its suite, which is smaller than one for any suite. The function is inlined, since a short
@@ -214,7 +210,10 @@ fn check_lengths<K: Keys>(keys: &K, nonce: &[u8], aad: &[u8]) -> Result<(), Faul
     ensures { let s = setting (K.keyed keys.now) nonce.now aad.now in
         MatchResult result (λ _. HasLengths s × (length aad.now ≤ aad_limit s.suite)) (BeginRefused s) }
 {
-    keys.check_key()?;
+    // A kept key always has its suite's length, and the compiler leaves the comparison out.
+    if keys.key().len() != keys.suite().key_length() {
+        return Err(Fault::KeyLength);
+    }
     if nonce.len() != Suite::NONCE_LENGTH {
         return Err(Fault::NonceLength);
     }
@@ -327,7 +326,7 @@ pub extern "C" fn aeadkit_seal_in_place(
     ensures unknown { ((named : Suite) → suite ≢ suite_number named)
         → (result ≡ unknown_suite) × (text.new ≡ text.old) × (tag.new ≡ tag.old) }
 {
-    match suite_numbered(u64::from(suite)) {
+    match Suite::from_number(suite) {
         Some(suite) => {
             let keys = ByBytes { suite, key };
             outcome_number(run_in_place::<Sealing, ByBytes>(&keys, nonce, aad, text, tag))
@@ -356,7 +355,7 @@ pub extern "C" fn aeadkit_open_in_place(
     ensures unknown { ((named : Suite) → suite ≢ suite_number named)
         → (result ≡ unknown_suite) × (text.new ≡ text.old) }
 {
-    match suite_numbered(u64::from(suite)) {
+    match Suite::from_number(suite) {
         Some(suite) => {
             let keys = ByBytes { suite, key };
             let mut given = *tag;
@@ -388,7 +387,7 @@ pub extern "C" fn aeadkit_seal(
     ensures unknown { ((named : Suite) → suite ≢ suite_number named)
         → (result ≡ unknown_suite) × (sealed.new ≡ sealed.old) }
 {
-    match suite_numbered(u64::from(suite)) {
+    match Suite::from_number(suite) {
         Some(suite) => seal_to(&ByBytes { suite, key }, nonce, aad, text, sealed),
         None => UNKNOWN_SUITE,
     }
@@ -413,7 +412,7 @@ pub extern "C" fn aeadkit_open(
     ensures unknown { ((named : Suite) → suite ≢ suite_number named)
         → (result ≡ unknown_suite) × (text.new ≡ text.old) }
 {
-    match suite_numbered(u64::from(suite)) {
+    match Suite::from_number(suite) {
         Some(suite) => open_to(&ByBytes { suite, key }, nonce, aad, sealed, text),
         None => UNKNOWN_SUITE,
     }

@@ -7,7 +7,7 @@ use Rattle.capi.proofs.key.aeadkit_key_init.Goals as goal
 
 pub returns-then-key-key_length-clause-known : goal.returns-then-key-key_length-clause-known
 returns-then-key-key_length-clause-known c = λ named is.
-    let same : c.in-Some.suite ≡ named = same_Some _ _ ((c.in-Some.ensures named).1 (c.from.ensures ∙ is)) in (
+    let same : c.in-Some.suite ≡ named = same_Some _ _ ((c.in-Some.ensures named).1 is) in (
       Err KeyLength,
       (
         c.outcome_number.ensures,
@@ -17,7 +17,7 @@ returns-then-key-key_length-clause-known c = λ named is.
 
 pub returns-clause-known : goal.returns-clause-known
 returns-clause-known c = λ named is.
-    let same : c.in-Some.suite ≡ named = same_Some _ _ ((c.in-Some.ensures named).1 (c.from.ensures ∙ is)) in (
+    let same : c.in-Some.suite ≡ named = same_Some _ _ ((c.in-Some.ensures named).1 is) in (
       Ok tt,
       (
         c.outcome_number-2.ensures,
@@ -30,8 +30,8 @@ returns-clause-known c = λ named is.
 
 pub returns-then-key-key_length-clause-unknown : goal.returns-then-key-key_length-clause-unknown
 returns-then-key-key_length-clause-unknown c = λ none.
-    absurd (none c.in-Some.suite (sym c.from.ensures ∙ (c.in-Some.ensures c.in-Some.suite).0 refl))
+    absurd (none c.in-Some.suite ((c.in-Some.ensures c.in-Some.suite).0 refl))
 
 pub returns-clause-unknown : goal.returns-clause-unknown
 returns-clause-unknown c = λ none.
-    absurd (none c.in-Some.suite (sym c.from.ensures ∙ (c.in-Some.ensures c.in-Some.suite).0 refl))
+    absurd (none c.in-Some.suite ((c.in-Some.ensures c.in-Some.suite).0 refl))

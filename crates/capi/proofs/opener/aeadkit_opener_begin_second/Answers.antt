@@ -2,7 +2,7 @@ use Rattle.std.proofs.Common.{◌≡◌, ◌+◌, ◌∙◌, refl, sym, ap, Ok, 
 use Rattle.std.proofs.lemmas.Option.{none-some, same_Some}
 use Rattle.aead.specs.Suites.{suite_number}
 use Rattle.capi.specs.Openers.{opening}
-use Rattle.capi.proofs.Outcomes.{begun}
+use Rattle.capi.proofs.Outcomes.{begun, not_zero}
 use Rattle.capi.proofs.opener.aeadkit_opener_begin_second.Goals as goal
 
 pub returns-in-Ok-clause-holds : goal.returns-in-Ok-clause-holds
@@ -41,6 +41,9 @@ returns-in-Ok-clause-not_begun c = λ none.
 pub returns-in-Err-clause-not_begun : goal.returns-in-Err-clause-not_begun
 returns-in-Err-clause-not_begun c = λ none.
     absurd (none c.in-Some.suite ((c.in-Some.ensures c.in-Some.suite).0 refl))
+
+pub returns-in-Err-clause-same_keys : goal.returns-in-Err-clause-same_keys
+returns-in-Err-clause-same_keys c = λ zero. absurd (not_zero c.in-Err.fault (sym c.outcome_number-in-Err.ensures ∙ zero))
 
 pub returns-in-Err-clause-kept : goal.returns-in-Err-clause-kept
 returns-in-Err-clause-kept c = λ none. absurd (begun _ (Err c.in-Err.fault) c.outcome_number-in-Err.ensures none)

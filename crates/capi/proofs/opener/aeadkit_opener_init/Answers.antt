@@ -1,4 +1,4 @@
-use Rattle.std.proofs.Common.{◌≡◌, ◌∙◌, refl, sym, subst, IfOk, MatchResult}
+use Rattle.std.proofs.Common.{◌≡◌, refl, sym, subst, IfOk, MatchResult}
 use Rattle.std.proofs.lemmas.Option.{same_Some}
 use Rattle.aead.specs.declared.suite.Suite.{Suite}
 use Rattle.aead.specs.Sealing.{Setting}
@@ -8,8 +8,7 @@ use Rattle.capi.proofs.opener.aeadkit_opener_init.Goals as goal
 
 pub returns-clause-known : goal.returns-clause-known
 returns-clause-known c = λ named is.
-    let same : c.in-Some.suite ≡ named =
-    same_Some _ _ ((c.in-Some.ensures named).1 (c.from.ensures ∙ is)) in
+    let same : c.in-Some.suite ≡ named = same_Some _ _ ((c.in-Some.ensures named).1 is) in
     let setting : Suite → Setting = λ x. setting_of x c.args.key.now c.args.nonce.now c.args.aad.now in
     c.note_begun.ensures.begins (setting named) (sym same)
     (subst (λ x. IfOk c.begin-begun.result (λ _. MasksByBytes (setting x))) same c.begin-begun.ensures.bytes)
@@ -18,6 +17,4 @@ returns-clause-known c = λ named is.
     (BeginRefused (setting x))) same c.begin-begun.ensures.answer)
 
 pub returns-clause-unknown : goal.returns-clause-unknown
-returns-clause-unknown c = λ none.
-    let found = (c.in-Some.ensures c.in-Some.suite).0 refl in
-    absurd (none c.in-Some.suite (sym c.from.ensures ∙ found))
+returns-clause-unknown c = λ none. absurd (none c.in-Some.suite ((c.in-Some.ensures c.in-Some.suite).0 refl))
