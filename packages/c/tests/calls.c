@@ -364,10 +364,10 @@ static void nothing(void) {
 /* ---- facts, and wiping ---- */
 
 static void facts(void) {
-    static const char *const texts[18] = {
+    static const char *const texts[19] = {
         "done", "wrong key length", "wrong nonce length", "text too long", "associated data too long", "too short",
         "authentication failed", "wrong length for wrapping", "unwrapping failed", "", "", "", "", "source changed",
-        "unknown suite", "not begun", "wrong output length", ""};
+        "unknown suite", "not begun", "wrong output length", "overlapping output", ""};
     for (uint32_t suite = 0; suite < 9; suite++) {
         int known = suite > 0 && suite <= SUITES;
         is("a key's length", aeadkit_key_length(suite) == (known ? key_lengths[suite] : 0));
@@ -377,7 +377,7 @@ static void facts(void) {
     }
     is("the largest number is not a suite", aeadkit_key_length(UINT32_MAX) == 0 && aeadkit_text_limit(UINT32_MAX) == 0
                                              && aeadkit_aad_limit(UINT32_MAX) == 0);
-    for (uint32_t status = 0; status < 18; status++)
+    for (uint32_t status = 0; status < 19; status++)
         is("a status's string", !strcmp(aeadkit_status_string(status), *texts[status] ? texts[status] : "unknown status"));
     is("the largest number is not a status", !strcmp(aeadkit_status_string(UINT32_MAX), "unknown status"));
     unsigned major = 0, minor = 0, patch = 0;
