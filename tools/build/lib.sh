@@ -1,12 +1,29 @@
 #!/bin/sh
 # What the Makefile runs to build and to pack: lib.sh library|program|wasm|standin|standin-wasm PREFIX, or lib.sh dist.
-# BUILD is the folder of the copies that are proved. BUILDS names the builds of the library, and PROGRAM that of the program.
+# BUILD is the folder of the copies that are proved. BUILDS names the builds of the library, and PROGRAM that of the program:
+# `default` and `avx2` are for x86-64, and may stand in one prefix, and `aarch64` needs a prefix of its own.
 set -eu
 top=$(cd "$(dirname "$0")/../.." && pwd)
 build=${BUILD:-$top-build}
 exports=$top/packages/c/exports.map
 version=$(sed -n 's/^pub const VERSION: &str = "\(.*\)";$/\1/p' "$top/crates/command/src/version.rt")
 major=${version%%.*}
+
+fail() {
+    echo "lib.sh: $*" >&2
+    exit 1
+}
+
+# Fails unless each of these tools is there: needs TOOL:PACKAGE.. of Debian
+needs() {
+    for tool in "$@"; do
+        command -v "${tool%:*}" > /dev/null || fail "${tool%:*} is not there: install ${tool#*:}"
+    done
+}
+needs_rt() {
+    command -v "${RT:-rt}" > /dev/null || fail "rt is not there: put the bin folder of the Rattle kit into PATH"
+    needs python3:python3
+}
 
 # Prints a file with the version in the place of 0.0.0, and with its numbers in the macros of the header: filled FILE
 filled() {
@@ -51,20 +68,38 @@ proved() {
 # functions of the C library are bound when it is loaded, and not on the stack of a first call.
 linked() {
     mkdir -p "$2" "$3"
-    objcopy -w --set-section-alignment '.text.*=64' "$1" "$1.aligned"
+    $objcopy -w --set-section-alignment '.text.*=64' "$1" "$1.aligned"
     {
         grep -oE 'aeadkit_[a-z_]+' "$exports" | sed 's/.*/.globl &\n.hidden &/'
         echo '.section .rodata'
         sed -nE 's/^(AEADKIT_[0-9]+) .*/.globl \1\n.hidden \1\n\1: .byte 1/p' "$exports"
-        echo '.section .note.GNU-stack,"",@progbits'
-    } | cc -x assembler -c - -o "$1.hidden"
-    ld -r -o "$1.o" --whole-archive "$1.aligned" "$1.hidden"
+        echo '.section .note.GNU-stack,"",%progbits'
+    } | $cc -x assembler -c - -o "$1.hidden"
+    $ld -r -o "$1.o" --whole-archive "$1.aligned" "$1.hidden"
     rm -f "$2/libaeadkit.a"
-    ar rcs "$2/libaeadkit.a" "$1.o"
-    cc -shared -o "$3/libaeadkit.so.$version" -Wl,-soname,"libaeadkit.so.$major" -Wl,-z,now -Wl,--no-undefined-version \
+    $ar rcs "$2/libaeadkit.a" "$1.o"
+    $cc -shared -o "$3/libaeadkit.so.$version" -Wl,-soname,"libaeadkit.so.$major" -Wl,-z,now -Wl,--no-undefined-version \
         -Wl,--whole-archive "$1.aligned" -Wl,--no-whole-archive -Wl,--version-script="$exports"
     ln -sf "libaeadkit.so.$version" "$3/libaeadkit.so.$major"
     ln -sf "libaeadkit.so.$major" "$3/libaeadkit.so"
+}
+cc=cc ld=ld ar=ar objcopy=objcopy
+
+# Sets these tools to those of the kit, for AArch64: its clang is each of them under another name. They need no C library for that
+# processor, and link none: memcpy, memmove, memset and bcmp are those of the program, of glibc as of musl.
+tools_of_kit() {
+    llvm=$build/llvm
+    mkdir -p "$llvm"
+    for name in clang ld.lld llvm-ar llvm-objcopy; do
+        ln -sfn "$(kit)/toolchain/bin/clang" "$llvm/$name"
+    done
+    cc="$llvm/clang --target=aarch64-unknown-linux-gnu --no-default-config -Qunused-arguments -fuse-ld=lld -nostdlib"
+    ld="$llvm/ld.lld -m aarch64linux" ar=$llvm/llvm-ar objcopy=$llvm/llvm-objcopy
+}
+
+# Prints the folder of the kit.
+kit() {
+    dirname "$(dirname "$(realpath "$(command -v rt)")")"
 }
 
 # Lays out the header, and what pkg-config and CMake read.
@@ -77,15 +112,49 @@ interface() {
     done
 }
 
+# Fails, before anything is proved, at builds that cannot stand in this prefix, and at missing tools.
+buildable() {
+    needs_rt
+    for kind in $builds; do
+        case $kind in
+        default | avx2) needs cc:gcc ld:binutils ar:binutils objcopy:binutils
+            wanted=x86_64 ;;
+        aarch64)
+            [ "$builds" = aarch64 ] || fail "BUILDS=\"$builds\": a prefix is for one processor, so build aarch64 alone, into another PREFIX"
+            wanted=aarch64 ;;
+        *) fail "BUILDS=\"$builds\": there is no build '$kind', but default, avx2 and aarch64" ;;
+        esac
+    done
+    there=$(processor "$prefix/lib/libaeadkit.so")
+    [ "$there" = none ] || [ "$there" = "$wanted" ] || fail "$prefix has the library for $there: give another PREFIX for $wanted"
+}
+
+# Prints the processor of an ELF file: x86_64, aarch64, another one's number, or none if there is no file.
+processor() {
+    [ -e "$1" ] || { echo none; return; }
+    case $(od -An -tu2 -j18 -N2 "$1" | tr -d ' ') in
+    62) echo x86_64 ;;
+    183) echo aarch64 ;;
+    *) echo "another processor" ;;
+    esac
+}
+
 library() {
+    builds=${BUILDS:-default avx2}
+    buildable
     interface
     # A build for AVX2 that stays from an earlier run would be loaded in place of this library.
     rm -f "$prefix/lib/x86-64-v3/libaeadkit.a" "$prefix/lib/glibc-hwcaps/x86-64-v3/libaeadkit.so"*
-    for kind in ${BUILDS:-default avx2}; do
+    for kind in $builds; do
         copied "$kind"
-        cpu='' static=$prefix/lib shared=$prefix/lib
-        [ "$kind" = default ] || cpu=--cpu=x86-64-v3 static=$prefix/lib/x86-64-v3 shared=$prefix/lib/glibc-hwcaps/x86-64-v3
-        proved capi lib $cpu
+        words='' static=$prefix/lib shared=$prefix/lib
+        case $kind in
+        avx2) words=--cpu=x86-64-v3 static=$prefix/lib/x86-64-v3 shared=$prefix/lib/glibc-hwcaps/x86-64-v3 ;;
+        aarch64) words='--target aarch64-unknown-linux-gnu' ;;
+        esac
+        # shellcheck disable=SC2086
+        proved capi lib $words
+        [ "$kind" != aarch64 ] || tools_of_kit
         linked "$room/crates/capi/out/libcapi.a" "$static" "$shared"
     done
 }
@@ -117,7 +186,7 @@ javascript() {
 wasm() {
     copied wasm
     sed -i 's/^capi staticlib:/capi wasm64:/' "$room/crates.txt"
-    kit=$(dirname "$(dirname "$(realpath "$(command -v rt)")")")
+    kit=$(kit)
     clang=$room/kit/toolchain/bin/clang
     rm -rf "$room/kit"
     mkdir "$room/kit"
