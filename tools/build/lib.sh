@@ -180,10 +180,15 @@ javascript() {
     done
     cp "$top"/packages/javascript/*.mjs "$top"/packages/javascript/*.mts "$folder/"
     "$top/packages/javascript/lower.sh" "$1" "$folder/aeadkit.wasm"
+    python3 "$top/tools/build/lanes.py" "$folder/aeadkit.wasm"
 }
 
-# The compiler of this kit compiles vectors to simd128. Otherwise they are compiled a lane at a time, and AES-GCM is 10 times slower.
+# The kit's compiler, in a copy of the kit, gets a word and a step before it. Vectors are compiled to simd128: otherwise they are
+# compiled a lane at a time, and AES-GCM is 10 times slower. And look-ups become instructions: the kit writes them as loads from
+# addresses that depend on secrets.
 wasm() {
+    needs_rt
+    needs wasm-opt:binaryen wasm-dis:binaryen
     copied wasm
     sed -i 's/^capi staticlib:/capi wasm64:/' "$room/crates.txt"
     kit=$(kit)
@@ -195,7 +200,16 @@ wasm() {
     cp -rs "$kit/bin" "$kit/toolchain" "$room/kit/"
     cp --remove-destination "$kit/bin/rt" "$kit/bin/rtlib.py" "$room/kit/bin/"
     rm "$clang"
-    printf '#!/bin/sh\nexec "%s" "$@" -msimd128\n' "$kit/toolchain/bin/clang" > "$clang"
+    cat > "$clang" << END
+#!/bin/sh
+set -eu
+clang=$kit/toolchain/bin/clang
+case " \$* " in *' -x ir module.bc '*)
+    "\$clang" --target=wasm64-unknown-unknown --no-default-config -S -emit-llvm -Xclang -disable-llvm-passes -x ir module.bc -o module.ll
+    python3 "$top/tools/build/swizzle.py" < module.ll > module.bc ;;
+esac
+exec "\$clang" "\$@" -msimd128
+END
     chmod +x "$clang"
     PATH=$room/kit/bin:$PATH
     proved capi lib
@@ -204,6 +218,7 @@ wasm() {
 
 # The stand-in: the calls of the header in plain C, slow and unproved, for tests of the packages without the toolchain.
 standin() {
+    needs cc:gcc ld:binutils ar:binutils objcopy:binutils
     interface
     cc -O1 -fPIC -I"$prefix/include" -c "$top/packages/standin/standin.c" -o "$build/standin.o"
     ar rcs "$build/standin.a" "$build/standin.o"
@@ -211,6 +226,7 @@ standin() {
 }
 
 standin_wasm() {
+    needs clang:clang wasm-ld:lld wasm-opt:binaryen wasm-dis:binaryen python3:python3
     interface
     clang --target=wasm64 -O2 -ffreestanding -DFREESTANDING -I"$prefix/include" -c "$top/packages/standin/standin.c" \
         -o "$build/standin.o"
