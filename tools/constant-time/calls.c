@@ -9,7 +9,7 @@
    Secret are keys, texts, what a call decrypts, and of the structs each byte that differs between keys. Public are suites,
    lengths, nonces, associated data, ciphertexts and tags once they are returned, and statuses. SUITE 0 is known code (known.c), 1
    to 6 are those of the header, and 16, 24 and 32 stand for key wrap under a key of that length. VARIANT is 'ok', or 'no' where
-   the call refuses: a forged sealing or wrapping, another key at a resume, another text in a second pass.
+   the call refuses: a forged sealing or wrapping, or another text in a second pass.
    Standard output has the lines of marks.h, and 'group TEXT_LENGTH AAD_LENGTH UNDEFINED_STATUSES' for each. */
 #include "marks.h"
 #include <stdlib.h>
@@ -29,7 +29,7 @@ static unsigned dry_run, undefined_statuses;
 static struct { uint8_t first[MOST_STATE], mask[MOST_STATE]; } states[MOST_STATES];
 static unsigned state_count;
 
-static uint8_t key[32], other_key[32], resume_key[32], nonce[12], aad[MOST_AAD], tag[16];
+static uint8_t key[32], nonce[12], aad[MOST_AAD], tag[16];
 static uint8_t text[MOST_TEXT + 64] __attribute__((aligned(64)));
 static uint8_t work[MOST_TEXT + 64] __attribute__((aligned(64)));
 static uint8_t sealed[MOST_TEXT + 64] __attribute__((aligned(64)));
@@ -38,8 +38,6 @@ static struct aeadkit_key kept;
 static struct aeadkit_sealer sealer;
 static struct aeadkit_opener opener;
 static struct aeadkit_siv siv;
-static struct aeadkit_saved_sealer saved_sealer;
-static struct aeadkit_saved_passes saved_passes;
 
 static void fill(void *to, size_t length, uint64_t seed) {
     uint8_t *bytes = to;
@@ -133,12 +131,10 @@ static void inputs(size_t n, size_t a, uint64_t number) {
     public(sealed, sizeof sealed);
     public(opened, sizeof opened);
     fill(key, sizeof key, 1000 * number + 1);
-    fill(other_key, sizeof other_key, 1000 * number + 2);
     fill(text, n, 1000 * number + 3);
     fill(nonce, sizeof nonce, 7 * n + a);
     fill(aad, a, 11 * n + a + 5);
     secret(key, sizeof key);
-    secret(other_key, sizeof other_key);
     secret(text, n);
     memcpy(work, text, n);
 }
@@ -201,16 +197,6 @@ static size_t piece(size_t at, size_t n, unsigned number) {
     return next < n - at ? next : n - at;
 }
 
-/* At a refused resume another key, or a saved state with another hash key: in its first 16 bytes, or in the next 16. */
-static uint8_t *key_of_resume(void *saved, uint64_t number) {
-    uint8_t *hash_key = (uint8_t *)saved + 8;
-    memcpy(resume_key, key, sizeof key);
-    if (!refused) return resume_key;
-    if (number % 3 == 0) memcpy(resume_key, other_key, sizeof key);
-    else hash_key[number % 3 == 1 ? 21 : 5] ^= 0x10;
-    return resume_key;
-}
-
 static void begin_with(void) {
     CALL("key_init", AEADKIT_DONE, aeadkit_key_init(&kept, suite, key, key_length()));
     state(&kept, sizeof kept);
@@ -229,55 +215,18 @@ static void in_pieces(size_t n, size_t a, uint64_t number) {
         CALL("sealer_update", AEADKIT_DONE, aeadkit_sealer_update(&sealer, work + at, length));
         public(work + at, length);
         at += length;
-        if (i == 4) break;
-    }
-    if (is("sealer_save") || is("sealer_resume")) {
-        state(&sealer, sizeof sealer);
-        CALL("sealer_save", AEADKIT_DONE, aeadkit_sealer_save(&sealer, &saved_sealer));
-        uint8_t *its_key = key_of_resume(&saved_sealer, number);
-        state(&saved_sealer, sizeof saved_sealer);
-        CALL("sealer_resume", refused ? AEADKIT_TAG_MISMATCH : AEADKIT_DONE,
-             aeadkit_sealer_resume(&sealer, its_key, k, nonce, 12, &saved_sealer));
-        return;
     }
     if (is("sealer_wipe")) {
         state(&sealer, sizeof sealer);
         CALL_VOID("sealer_wipe", aeadkit_sealer_wipe(&sealer));
         return;
     }
-    for (unsigned i = 5; at < n; i++) {
-        size_t length = piece(at, n, i);
-        state(&sealer, sizeof sealer);
-        CALL("sealer_update", AEADKIT_DONE, aeadkit_sealer_update(&sealer, work + at, length));
-        public(work + at, length);
-        at += length;
-    }
     state(&sealer, sizeof sealer);
     CALL("sealer_finish", AEADKIT_DONE, aeadkit_sealer_finish(&sealer, tag));
 }
 
-static void save_passes(int of_siv, uint64_t number) {
-    size_t k = key_length();
-    uint32_t wanted = refused ? AEADKIT_TAG_MISMATCH : AEADKIT_DONE;
-    uint8_t *its_key;
-    if (of_siv) {
-        state(&siv, sizeof siv);
-        CALL("siv_save", AEADKIT_DONE, aeadkit_siv_save(&siv, &saved_passes));
-        its_key = key_of_resume(&saved_passes, number);
-        state(&saved_passes, sizeof saved_passes);
-        CALL("siv_resume", wanted, aeadkit_siv_resume(&siv, its_key, k, nonce, 12, &saved_passes));
-    } else {
-        state(&opener, sizeof opener);
-        CALL("opener_save", AEADKIT_DONE, aeadkit_opener_save(&opener, &saved_passes));
-        its_key = key_of_resume(&saved_passes, number);
-        state(&saved_passes, sizeof saved_passes);
-        CALL("opener_resume", wanted, aeadkit_opener_resume(&opener, its_key, k, nonce, 12, &saved_passes));
-    }
-}
-
 static void in_two_readings(size_t n, size_t a, uint64_t number) {
     size_t k = key_length(), at = 0;
-    int saving = is("siv_save") || is("siv_resume");
     if (is("siv_init_with")) {
         begin_with();
         CALL("siv_init_with", AEADKIT_DONE, aeadkit_siv_init_with(&siv, &kept, nonce, 12, aad, a));
@@ -288,12 +237,6 @@ static void in_two_readings(size_t n, size_t a, uint64_t number) {
         state(&siv, sizeof siv);
         CALL("siv_absorb", AEADKIT_DONE, aeadkit_siv_absorb(&siv, work + at, length));
         at += length;
-        if (saving && i == 4) save_passes(1, number);
-        if (saving && i == 4 && refused) return;
-    }
-    if (saving && refused) {
-        save_passes(1, number);
-        return;
     }
     if (is("siv_wipe")) {
         state(&siv, sizeof siv);
@@ -303,10 +246,6 @@ static void in_two_readings(size_t n, size_t a, uint64_t number) {
     state(&siv, sizeof siv);
     CALL("siv_begin_second", AEADKIT_DONE, aeadkit_siv_begin_second(&siv, tag));
     public(tag, sizeof tag);
-    if (saving) {
-        save_passes(1, number);
-        return;
-    }
     if (refused) work[number % n] ^= (uint8_t)(number + 1);
     at = 0;
     for (unsigned i = 0; at < n; i++) {
@@ -322,7 +261,6 @@ static void in_two_readings(size_t n, size_t a, uint64_t number) {
 
 static void in_two_passes(size_t n, size_t a, uint64_t number) {
     size_t k = key_length(), at = 0;
-    int saving = is("opener_save") || is("opener_resume");
     int forged = refused && is("opener_begin_second");
     CALL("", AEADKIT_DONE, aeadkit_seal_in_place(suite, key, k, nonce, 12, work, n, aad, a, tag));
     public(work, n);
@@ -338,12 +276,6 @@ static void in_two_passes(size_t n, size_t a, uint64_t number) {
         state(&opener, sizeof opener);
         CALL("opener_check", AEADKIT_DONE, aeadkit_opener_check(&opener, work + at, length));
         at += length;
-        if (saving && i == 4) save_passes(0, number);
-        if (saving && i == 4 && refused) return;
-    }
-    if (saving && refused) {
-        save_passes(0, number);
-        return;
     }
     if (is("opener_wipe")) {
         state(&opener, sizeof opener);
@@ -353,10 +285,6 @@ static void in_two_passes(size_t n, size_t a, uint64_t number) {
     state(&opener, sizeof opener);
     CALL("opener_begin_second", forged ? AEADKIT_TAG_MISMATCH : AEADKIT_DONE, aeadkit_opener_begin_second(&opener));
     if (forged) return;
-    if (saving) {
-        save_passes(0, number);
-        return;
-    }
     if (refused) work[number % n] ^= (uint8_t)(number + 1);
     at = 0;
     for (unsigned i = 0; at < n; i++) {
@@ -511,13 +439,11 @@ static const char *const whole_calls[] = {
     "seal_in_place ok", "open_in_place ok", "open_in_place no", "seal ok", "open ok", "open no", "key_init ok", "key_wipe ok",
     "seal_in_place_with ok", "open_in_place_with ok", "open_in_place_with no", "seal_with ok", "open_with ok", "open_with no",
     "opener_init ok", "opener_init_with ok", "opener_check ok", "opener_begin_second ok", "opener_begin_second no",
-    "opener_update ok", "opener_finish ok", "opener_finish no", "opener_save ok", "opener_resume ok", "opener_resume no",
-    "opener_wipe ok", NULL};
+    "opener_update ok", "opener_finish ok", "opener_finish no", "opener_wipe ok", NULL};
 static const char *const sealer_calls[] = {"sealer_init ok", "sealer_init_with ok", "sealer_update ok", "sealer_finish ok",
-                                           "sealer_save ok", "sealer_resume ok", "sealer_resume no", "sealer_wipe ok", NULL};
+                                           "sealer_wipe ok", NULL};
 static const char *const siv_calls[] = {"siv_init ok", "siv_init_with ok", "siv_absorb ok", "siv_begin_second ok", "siv_update ok",
-                                        "siv_finish ok", "siv_finish no", "siv_save ok", "siv_resume ok", "siv_resume no",
-                                        "siv_wipe ok", NULL};
+                                        "siv_finish ok", "siv_finish no", "siv_wipe ok", NULL};
 static const char *const wrap_calls[] = {"wrap ok", "unwrap ok", "unwrap no", "wrap_padded ok", "unwrap_padded ok",
                                          "unwrap_padded no", NULL};
 

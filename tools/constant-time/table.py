@@ -32,7 +32,7 @@ OF_LIBRARY = r"\S+"
 SHORT_SUITES = ("1", "2", "6", "16")
 SHORT_CALLS = r"seal_in_place|open_in_place|key_init|seal_with|wrap|unwrap"
 # Only these calls return a verdict: no other call has a status that depends on a secret.
-VERDICTS = r"open(_in_place)?(_with)?|(sealer|opener|siv)_resume|opener_begin_second|opener_finish|siv_finish|unwrap(_padded)?"
+VERDICTS = r"open(_in_place)?(_with)?|opener_begin_second|opener_finish|siv_finish|unwrap(_padded)?"
 # More bytes than a stretch of code has that valgrind translates at once.
 STRETCH = 800
 # Instructions whose time depends on their operands on some processors. Neither run sees that.

@@ -1,5 +1,5 @@
-/* Seals and opens random texts in random pieces, between which the structs are moved or saved and resumed, and compares them with
-   aeadkit_seal and aeadkit_open. Prints one line, and exits with 0 if nothing differs: pieces [TEXTS] */
+/* Seals and opens random texts in random pieces, between which the structs are moved, and compares them with aeadkit_seal and
+   aeadkit_open. Prints one line, and exits with 0 if nothing differs: pieces [TEXTS] */
 #include "aeadkit.h"
 
 #include <stdio.h>
@@ -64,81 +64,44 @@ static size_t next_of(const struct message *m, size_t done) {
     return next > m->length - done ? m->length - done : next;
 }
 
-/* Moves a sealer, or saves it and resumes it elsewhere. */
-static void move_sealer(struct aeadkit_sealer *sealer, const struct message *m, long number) {
-    struct aeadkit_sealer moved = *sealer;
-    struct aeadkit_saved_sealer saved;
-    int resumes = random_word() % 4 == 0;
-    if (resumes) {
-        want(aeadkit_sealer_save(sealer, &saved) == AEADKIT_DONE, "sealer_save", number);
-        want(!memcmp(&moved, sealer, sizeof moved), "changed by sealer_save", number);
-    }
-    memset(sealer, 0x5a, sizeof *sealer);
-    if (resumes)
-        want(aeadkit_sealer_resume(sealer, m->key, m->key_length, m->nonce, 12, &saved) == AEADKIT_DONE, "sealer_resume", number);
-    else *sealer = moved;
-}
-
-/* Moves an opener, or saves it and resumes it elsewhere, in either pass. */
-static void move_opener(struct aeadkit_opener *opener, const struct message *m, long number) {
-    struct aeadkit_opener moved = *opener;
-    struct aeadkit_saved_passes saved;
-    int resumes = random_word() % 4 == 0;
-    if (resumes) {
-        want(aeadkit_opener_save(opener, &saved) == AEADKIT_DONE, "opener_save", number);
-        want(!memcmp(&moved, opener, sizeof moved), "changed by opener_save", number);
-    }
-    memset(opener, 0x5a, sizeof *opener);
-    if (resumes)
-        want(aeadkit_opener_resume(opener, m->key, m->key_length, m->nonce, 12, &saved) == AEADKIT_DONE, "opener_resume", number);
-    else *opener = moved;
-}
-
-/* Moves a sealing by two readings, or saves it and resumes it elsewhere, in either reading. */
-static void move_siv(struct aeadkit_siv *siv, const struct message *m, long number) {
-    struct aeadkit_siv moved = *siv;
-    struct aeadkit_saved_passes saved;
-    int resumes = random_word() % 4 == 0;
-    if (resumes) {
-        want(aeadkit_siv_save(siv, &saved) == AEADKIT_DONE, "siv_save", number);
-        want(!memcmp(&moved, siv, sizeof moved), "changed by siv_save", number);
-    }
-    memset(siv, 0x5a, sizeof *siv);
-    if (resumes)
-        want(aeadkit_siv_resume(siv, m->key, m->key_length, m->nonce, 12, &saved) == AEADKIT_DONE, "siv_resume", number);
-    else *siv = moved;
+/* Moves a struct to other memory, and leaves other bytes behind. */
+static void *moved_from(void *from, size_t size) {
+    static uint64_t rooms[2][24];
+    void *to = from == rooms[0] ? rooms[1] : rooms[0];
+    memcpy(to, from, size);
+    memset(from, 0x5a, size);
+    return to;
 }
 
 /* Seals the text of a message in random pieces, between which the struct is moved, by a sealing that was begun. */
 static void sealed_in_pieces(struct aeadkit_sealer *sealer, const struct message *m, long number) {
     size_t length = m->length;
-    uint8_t tag[16];
+    uint8_t tag[16], kept[16];
     memcpy(pieces, text, length);
     for (size_t done = 0; done < length;) {
         size_t next = next_of(m, done);
-        move_sealer(sealer, m, number);
+        sealer = moved_from(sealer, sizeof *sealer);
         want(aeadkit_sealer_update(sealer, pieces + done, next) == AEADKIT_DONE, "update", number);
         done += next;
     }
     want(aeadkit_sealer_finish(sealer, tag) == AEADKIT_DONE, "finish", number);
     want(!memcmp(whole, pieces, length) && !memcmp(whole + length, tag, 16), "another sealing", number);
     want(all((uint8_t *)sealer, sizeof *sealer, 0), "not zeros after finish", number);
+    random_bytes(tag, 16);
+    memcpy(kept, tag, 16);
+    want(aeadkit_sealer_finish(sealer, tag) == AEADKIT_NOT_BEGUN, "finished twice", number);
+    want(aeadkit_sealer_update(sealer, tag, 16) == AEADKIT_NOT_BEGUN, "updated after finish", number);
+    want(!memcmp(kept, tag, 16) && all((uint8_t *)sealer, sizeof *sealer, 0), "changed at NOT_BEGUN", number);
 }
 
 /* A random text, sealed whole and in pieces. */
 static void seal_in_pieces(long number) {
     struct message m = message_of(number, 1 + (uint32_t)(random_word() % 4));
-    uint8_t tag[16], kept[16];
     struct aeadkit_sealer sealer;
     random_bytes((uint8_t *)&sealer, sizeof sealer);
     want(aeadkit_sealer_init(&sealer, m.suite, m.key, m.key_length, m.nonce, 12, m.aad, m.aad_length) == AEADKIT_DONE, "init",
          number);
     sealed_in_pieces(&sealer, &m, number);
-    random_bytes(tag, 16);
-    memcpy(kept, tag, 16);
-    want(aeadkit_sealer_finish(&sealer, tag) == AEADKIT_NOT_BEGUN, "finished twice", number);
-    want(aeadkit_sealer_update(&sealer, tag, 16) == AEADKIT_NOT_BEGUN, "updated after finish", number);
-    want(!memcmp(kept, tag, 16) && all((uint8_t *)&sealer, sizeof sealer, 0), "changed at NOT_BEGUN", number);
 }
 
 /* A random sealing, opened in two passes of random pieces, between which the struct is moved. Of five cases one has a changed
@@ -149,59 +112,59 @@ static void open_in_pieces(long number) {
     enum { CHANGED, CHANGED_LATER, LONGER } way = (int)(random_word() % 5);
     if (way == CHANGED) whole[bit / 8] ^= (uint8_t)(1 << bit % 8);
     memcpy(pieces, whole, length);
-    struct aeadkit_opener opener, moved;
+    struct aeadkit_opener first, moved, *opener = &first;
     struct aeadkit_key kept;
-    random_bytes((uint8_t *)&opener, sizeof opener);
+    random_bytes((uint8_t *)opener, sizeof *opener);
     if (random_word() % 2) {
-        want(aeadkit_opener_init(&opener, m.suite, m.key, m.key_length, m.nonce, 12, m.aad, m.aad_length, whole + length)
+        want(aeadkit_opener_init(opener, m.suite, m.key, m.key_length, m.nonce, 12, m.aad, m.aad_length, whole + length)
                  == AEADKIT_DONE, "opener_init", number);
     } else {
         want(aeadkit_key_init(&kept, m.suite, m.key, m.key_length) == AEADKIT_DONE, "key_init", number);
-        want(aeadkit_opener_init_with(&opener, &kept, m.nonce, 12, m.aad, m.aad_length, whole + length) == AEADKIT_DONE,
+        want(aeadkit_opener_init_with(opener, &kept, m.nonce, 12, m.aad, m.aad_length, whole + length) == AEADKIT_DONE,
              "opener_init_with", number);
         aeadkit_key_wipe(&kept);
     }
     for (size_t done = 0; done < length;) {
         size_t next = next_of(&m, done);
-        move_opener(&opener, &m, number);
-        want(aeadkit_opener_check(&opener, pieces + done, next) == AEADKIT_DONE, "check", number);
+        opener = moved_from(opener, sizeof *opener);
+        want(aeadkit_opener_check(opener, pieces + done, next) == AEADKIT_DONE, "check", number);
         done += next;
     }
-    moved = opener;
-    want(aeadkit_opener_update(&opener, pieces, length) == AEADKIT_NOT_BEGUN, "text before the check", number);
-    want(aeadkit_opener_finish(&opener) == AEADKIT_NOT_BEGUN, "finished before the check", number);
-    want(!memcmp(pieces, whole, length) && !memcmp(&opener, &moved, sizeof opener), "changed before the check", number);
-    uint32_t status = aeadkit_opener_begin_second(&opener);
+    moved = *opener;
+    want(aeadkit_opener_update(opener, pieces, length) == AEADKIT_NOT_BEGUN, "text before the check", number);
+    want(aeadkit_opener_finish(opener) == AEADKIT_NOT_BEGUN, "finished before the check", number);
+    want(!memcmp(pieces, whole, length) && !memcmp(opener, &moved, sizeof *opener), "changed before the check", number);
+    uint32_t status = aeadkit_opener_begin_second(opener);
     want(status == aeadkit_open(m.suite, m.key, m.key_length, m.nonce, 12, whole, length + 16, m.aad, m.aad_length, opened, length),
          "another status of begin_second", number);
     if (status == AEADKIT_TAG_MISMATCH) want(all(opened, length, 0), "not zeros where nothing was opened", number);
     want((way == CHANGED) == (status == AEADKIT_TAG_MISMATCH), "a changed bit", number);
     if (status != AEADKIT_DONE) {
-        want(all((uint8_t *)&opener, sizeof opener, 0), "not zeros after a mismatch", number);
+        want(all((uint8_t *)opener, sizeof *opener, 0), "not zeros after a mismatch", number);
         return;
     }
-    moved = opener;
-    want(aeadkit_opener_check(&opener, pieces, length) == AEADKIT_NOT_BEGUN, "checked again", number);
-    want(!memcmp(&opener, &moved, sizeof opener), "changed by a late check", number);
+    moved = *opener;
+    want(aeadkit_opener_check(opener, pieces, length) == AEADKIT_NOT_BEGUN, "checked again", number);
+    want(!memcmp(opener, &moved, sizeof *opener), "changed by a late check", number);
     int changed = way == CHANGED_LATER && bit < 8 * length;
     if (changed) pieces[bit / 8] ^= (uint8_t)(1 << bit % 8);
     for (size_t done = 0; done < length;) {
         size_t next = next_of(&m, done);
-        move_opener(&opener, &m, number);
-        want(aeadkit_opener_update(&opener, pieces + done, next) == AEADKIT_DONE, "opener_update", number);
+        opener = moved_from(opener, sizeof *opener);
+        want(aeadkit_opener_update(opener, pieces + done, next) == AEADKIT_DONE, "opener_update", number);
         done += next;
     }
     if (way == LONGER) {
-        moved = opener;
+        moved = *opener;
         pieces[length] = 0x3c;
-        want(aeadkit_opener_update(&opener, pieces + length, 1) == AEADKIT_SOURCE_CHANGED, "a longer pass", number);
-        want(pieces[length] == 0x3c && !memcmp(&opener, &moved, sizeof opener), "changed by a longer pass", number);
+        want(aeadkit_opener_update(opener, pieces + length, 1) == AEADKIT_SOURCE_CHANGED, "a longer pass", number);
+        want(pieces[length] == 0x3c && !memcmp(opener, &moved, sizeof *opener), "changed by a longer pass", number);
     }
-    want(aeadkit_opener_finish(&opener) == (changed ? AEADKIT_SOURCE_CHANGED : AEADKIT_DONE), "opener_finish", number);
+    want(aeadkit_opener_finish(opener) == (changed ? AEADKIT_SOURCE_CHANGED : AEADKIT_DONE), "opener_finish", number);
     if (changed) pieces[bit / 8] ^= (uint8_t)(1 << bit % 8);
     want(!memcmp(pieces, text, length) && !memcmp(opened, text, length), "another text", number);
-    want(all((uint8_t *)&opener, sizeof opener, 0), "not zeros after finish", number);
-    want(aeadkit_opener_finish(&opener) == AEADKIT_NOT_BEGUN, "finished twice", number);
+    want(all((uint8_t *)opener, sizeof *opener, 0), "not zeros after finish", number);
+    want(aeadkit_opener_finish(opener) == AEADKIT_NOT_BEGUN, "finished twice", number);
 }
 
 /* A random text, sealed whole and by two readings of random pieces, between which the struct is moved. Of five cases one has a
@@ -212,54 +175,54 @@ static void seal_by_two_readings(long number) {
     enum { CHANGED, SHORTER, LONGER } way = (int)(random_word() % 5);
     uint8_t tag[16], kept[16];
     memcpy(pieces, text, length);
-    struct aeadkit_siv siv, moved;
+    struct aeadkit_siv first, moved, *siv = &first;
     struct aeadkit_key kept_key;
-    random_bytes((uint8_t *)&siv, sizeof siv);
+    random_bytes((uint8_t *)siv, sizeof *siv);
     if (random_word() % 2) {
-        want(aeadkit_siv_init(&siv, m.suite, m.key, m.key_length, m.nonce, 12, m.aad, m.aad_length) == AEADKIT_DONE, "siv_init",
+        want(aeadkit_siv_init(siv, m.suite, m.key, m.key_length, m.nonce, 12, m.aad, m.aad_length) == AEADKIT_DONE, "siv_init",
              number);
     } else {
         want(aeadkit_key_init(&kept_key, m.suite, m.key, m.key_length) == AEADKIT_DONE, "key_init", number);
-        want(aeadkit_siv_init_with(&siv, &kept_key, m.nonce, 12, m.aad, m.aad_length) == AEADKIT_DONE, "siv_init_with", number);
+        want(aeadkit_siv_init_with(siv, &kept_key, m.nonce, 12, m.aad, m.aad_length) == AEADKIT_DONE, "siv_init_with", number);
         aeadkit_key_wipe(&kept_key);
     }
     for (size_t done = 0; done < length;) {
         size_t next = next_of(&m, done);
-        move_siv(&siv, &m, number);
-        want(aeadkit_siv_absorb(&siv, pieces + done, next) == AEADKIT_DONE, "absorb", number);
+        siv = moved_from(siv, sizeof *siv);
+        want(aeadkit_siv_absorb(siv, pieces + done, next) == AEADKIT_DONE, "absorb", number);
         done += next;
     }
-    moved = siv;
-    want(aeadkit_siv_update(&siv, pieces, length) == AEADKIT_NOT_BEGUN, "ciphertext before the tag", number);
-    want(aeadkit_siv_finish(&siv) == AEADKIT_NOT_BEGUN, "finished before the tag", number);
-    want(!memcmp(pieces, text, length) && !memcmp(&siv, &moved, sizeof siv), "changed before the tag", number);
-    want(aeadkit_siv_begin_second(&siv, tag) == AEADKIT_DONE && !memcmp(whole + length, tag, 16), "another tag", number);
-    moved = siv;
+    moved = *siv;
+    want(aeadkit_siv_update(siv, pieces, length) == AEADKIT_NOT_BEGUN, "ciphertext before the tag", number);
+    want(aeadkit_siv_finish(siv) == AEADKIT_NOT_BEGUN, "finished before the tag", number);
+    want(!memcmp(pieces, text, length) && !memcmp(siv, &moved, sizeof *siv), "changed before the tag", number);
+    want(aeadkit_siv_begin_second(siv, tag) == AEADKIT_DONE && !memcmp(whole + length, tag, 16), "another tag", number);
+    moved = *siv;
     memcpy(kept, tag, 16);
-    want(aeadkit_siv_absorb(&siv, pieces, length) == AEADKIT_NOT_BEGUN, "absorbed after the tag", number);
-    want(aeadkit_siv_begin_second(&siv, tag) == AEADKIT_NOT_BEGUN, "a second tag", number);
-    want(!memcmp(kept, tag, 16) && !memcmp(&siv, &moved, sizeof siv), "changed after the tag", number);
+    want(aeadkit_siv_absorb(siv, pieces, length) == AEADKIT_NOT_BEGUN, "absorbed after the tag", number);
+    want(aeadkit_siv_begin_second(siv, tag) == AEADKIT_NOT_BEGUN, "a second tag", number);
+    want(!memcmp(kept, tag, 16) && !memcmp(siv, &moved, sizeof *siv), "changed after the tag", number);
     int changed = way == CHANGED && bit < 8 * length;
     if (changed) pieces[bit / 8] ^= (uint8_t)(1 << bit % 8);
     if (way == SHORTER && length) again = length - 1;
     for (size_t done = 0; done < again;) {
         size_t next = next_of(&m, done);
         if (next > again - done) next = again - done;
-        move_siv(&siv, &m, number);
-        want(aeadkit_siv_update(&siv, pieces + done, next) == AEADKIT_DONE, "siv_update", number);
+        siv = moved_from(siv, sizeof *siv);
+        want(aeadkit_siv_update(siv, pieces + done, next) == AEADKIT_DONE, "siv_update", number);
         done += next;
     }
     if (way == LONGER) {
-        moved = siv;
+        moved = *siv;
         pieces[length] = 0x3c;
-        want(aeadkit_siv_update(&siv, pieces + length, 1) == AEADKIT_SOURCE_CHANGED, "a longer reading", number);
-        want(pieces[length] == 0x3c && !memcmp(&siv, &moved, sizeof siv), "changed by a longer reading", number);
+        want(aeadkit_siv_update(siv, pieces + length, 1) == AEADKIT_SOURCE_CHANGED, "a longer reading", number);
+        want(pieces[length] == 0x3c && !memcmp(siv, &moved, sizeof *siv), "changed by a longer reading", number);
     }
-    want(aeadkit_siv_finish(&siv) == (changed || again < length ? AEADKIT_SOURCE_CHANGED : AEADKIT_DONE), "siv_finish", number);
+    want(aeadkit_siv_finish(siv) == (changed || again < length ? AEADKIT_SOURCE_CHANGED : AEADKIT_DONE), "siv_finish", number);
     if (changed) pieces[bit / 8] ^= (uint8_t)(1 << bit % 8);
     want(!memcmp(pieces, whole, again), "another ciphertext", number);
-    want(all((uint8_t *)&siv, sizeof siv, 0), "not zeros after finish", number);
-    want(aeadkit_siv_finish(&siv) == AEADKIT_NOT_BEGUN, "finished twice", number);
+    want(all((uint8_t *)siv, sizeof *siv, 0), "not zeros after finish", number);
+    want(aeadkit_siv_finish(siv) == AEADKIT_NOT_BEGUN, "finished twice", number);
 }
 
 /* A sealing begins under a kept key as under the bytes of the key. It is refused under a suite that the call does not take, and
