@@ -1,5 +1,6 @@
 #!/bin/sh
-# What the Makefile runs to build and to pack: lib.sh library|program|wasm|standin|standin-wasm PREFIX, or lib.sh dist.
+# What the Makefile runs to build and to pack: lib.sh library|program|wasm|standin|standin-wasm|ready PREFIX, lib.sh dist|missing,
+# or lib.sh same FOLDER FOLDER.
 # BUILD is the folder of the copies that are proved. BUILDS names the builds of the library, and PROGRAM that of the program:
 # `default` and `avx2` are for x86-64, and may stand in one prefix, and `aarch64` needs a prefix of its own.
 set -eu
@@ -129,6 +130,23 @@ buildable() {
     [ "$there" = none ] || [ "$there" = "$wanted" ] || fail "$prefix has the library for $there: give another PREFIX for $wanted"
 }
 
+# Prints the packages of Debian that `make check` needs and that are not there.
+missing() {
+    for tool in cc:gcc c++:g++ ld:binutils make:make cmake:cmake pkg-config:pkg-config python3:python3 node:nodejs npm:npm cargo:cargo \
+        wasm-opt:binaryen groff:groff; do
+        command -v "${tool%:*}" > /dev/null || echo "${tool#*:}"
+    done
+}
+
+# Fails if `make check` would, for want of a tool or since the library in this prefix is for another processor.
+ready() {
+    packages=$(missing)
+    # shellcheck disable=SC2086
+    [ -z "$packages" ] || fail "tools for the tests are not there: install" $packages
+    there=$(processor "$prefix/lib/libaeadkit.so")
+    [ "$there" = none ] || [ "$there" = x86_64 ] || fail "$prefix has the library for $there: give another PREFIX, or make check-aarch64"
+}
+
 # Prints the processor of an ELF file: x86_64, aarch64, another one's number, or none if there is no file.
 processor() {
     [ -e "$1" ] || { echo none; return; }
@@ -235,31 +253,53 @@ standin_wasm() {
     javascript "$build/standin.wasm"
 }
 
-# Packs the tarball for C, the crate, the wheel and the npm package into BUILD/dist, with their sums.
+# Packs a tarball for C and a wheel for each processor, the crate and the npm package into BUILD/dist, with their sums. The same
+# commit gives the same bytes in any folder: what is packed has the time of the commit, one owner and one order.
 dist() {
-    out=$build/dist
-    prefix=$build/aeadkit-$version-x86_64-linux
-    package=$build/aeadkit-$version
-    rm -rf "$out" "$prefix" "$package"
+    needs tar:tar gzip:gzip cargo:cargo npm:npm wasm-opt:binaryen wasm-dis:binaryen
+    SOURCE_DATE_EPOCH=${SOURCE_DATE_EPOCH:-$(git -C "$top" log -1 --format=%ct 2> /dev/null || true)}
+    [ -n "$SOURCE_DATE_EPOCH" ] || fail "there is no commit whose time the packages could have: set SOURCE_DATE_EPOCH to a number of seconds"
+    export SOURCE_DATE_EPOCH LC_ALL=C
+    umask 022
+    out=$build/dist package=$build/aeadkit-$version builds_here=${BUILDS:-default avx2}
+    rm -rf "$out" "$package"
     mkdir -p "$out"
-    library
-    cp "$top/packages/c/README.md" "$prefix/"
-    tar -C "$build" -czf "$out/${prefix##*/}.tar.gz" --owner=0 --group=0 "${prefix##*/}"
     cp -R "$top/packages/rust" "$package"
-    for folder in lib lib/x86-64-v3; do
-        [ ! -e "$prefix/$folder/libaeadkit.a" ] || install -D -m 644 "$prefix/$folder/libaeadkit.a" "$package/$folder/libaeadkit.a"
+    for processor in x86_64 aarch64; do
+        prefix=$build/aeadkit-$version-$processor-linux BUILDS=$builds_here
+        [ $processor = x86_64 ] || BUILDS=aarch64
+        rm -rf "$prefix"
+        mkdir "$prefix"
+        library
+        cp "$top/packages/c/README.md" "$prefix/"
+        tar -C "$build" --sort=name --mtime="@$SOURCE_DATE_EPOCH" --owner=0 --group=0 --numeric-owner --mode=u=rwX,go=rX --format=gnu -c \
+            "${prefix##*/}" | gzip -9n > "$out/${prefix##*/}.tar.gz"
+        for archive in libaeadkit.a x86-64-v3/libaeadkit.a; do
+            [ ! -e "$prefix/lib/$archive" ] || install -D -m 644 "$prefix/lib/$archive" "$package/lib/$processor/$archive"
+        done
+        AEADKIT_PREFIX=$prefix PYTHONDONTWRITEBYTECODE=1 python3 "$top/packages/python/backend.py" "$out"
     done
     (cd "$package" && CARGO_TARGET_DIR="$build/cargo" cargo package --quiet --offline --no-verify --allow-dirty)
     cp "$build/cargo/package/aeadkit-$version.crate" "$out/"
-    AEADKIT_PREFIX=$prefix PYTHONDONTWRITEBYTECODE=1 python3 "$top/packages/python/backend.py" "$out"
     wasm
     (cd "$out" && npm pack --silent "$prefix/share/aeadkit/javascript" && sha256sum -- * > ../SHA256SUMS && mv ../SHA256SUMS .)
+}
+
+# Compares two folders that dist made, perhaps in different places and at different times: same FOLDER FOLDER
+same() {
+    for folder in "$@"; do
+        [ -e "$folder/SHA256SUMS" ] || fail "$folder has no SHA256SUMS: give two folders that make dist made"
+        (cd "$folder" && sha256sum --quiet -c SHA256SUMS) || fail "$folder has other files than its SHA256SUMS says"
+    done
+    diff "$1/SHA256SUMS" "$2/SHA256SUMS" || fail "these artefacts differ"
+    echo "ok: $(wc -l < "$1/SHA256SUMS") artefacts are the same, byte for byte"
 }
 
 command=$1
 prefix=${2:-}
 case $command in
-library | program | wasm | standin | standin-wasm)
+library | program | wasm | standin | standin-wasm | ready)
+    [ -n "$prefix" ] || fail "give a PREFIX"
     mkdir -p "$prefix"
     prefix=$(cd "$prefix" && pwd) ;;
 esac
@@ -270,6 +310,9 @@ program) program ;;
 wasm) wasm ;;
 standin) standin ;;
 standin-wasm) standin_wasm ;;
+ready) ready ;;
 dist) dist ;;
-*) sed -n '2,3s/^# //p' "$0" >&2; exit 2 ;;
+missing) missing ;;
+same) same "$2" "$3" ;;
+*) sed -n '2,5s/^# //p' "$0" >&2; exit 2 ;;
 esac
