@@ -1,5 +1,5 @@
 #!/usr/bin/env python3
-"""Counts the loads and stores of a WebAssembly module whose address depends on a lane of bytes: lanes.py MODULE
+"""Counts the loads and stores of a WebAssembly module whose address depends on a lane of a vector: lanes.py MODULE
 
 So the kit compiles look-ups in tables of 16 bytes, by bytes that are secret, unless swizzle.py made instructions of them. The status is 1 if
 there is one. An address depends on a lane if it is computed of one, or of a local variable that was last set to a value computed of one."""
@@ -38,7 +38,7 @@ class Function:
         """Walks an expression in the order in which it is computed, and returns whether its value depends on a lane."""
         operands = [self.of_lane(part) for part in expression if isinstance(part, list)]
         operation, *words = expression if isinstance(expression[0], str) else ["", *expression]
-        if operation.startswith("i8x16.extract_lane"):
+        if ".extract_lane" in operation:
             return True
         if operation == "local.get":
             return words[0] in self.locals

@@ -133,7 +133,7 @@ buildable() {
 # Prints the packages of Debian that `make check` needs and that are not there.
 missing() {
     for tool in cc:gcc c++:g++ ld:binutils make:make cmake:cmake pkg-config:pkg-config python3:python3 node:nodejs npm:npm cargo:cargo \
-        wasm-opt:binaryen groff:groff; do
+        wasm-dis:binaryen groff:groff; do
         command -v "${tool%:*}" > /dev/null || echo "${tool#*:}"
     done
 }
@@ -206,7 +206,7 @@ javascript() {
 # addresses that depend on secrets.
 wasm() {
     needs_rt
-    needs wasm-opt:binaryen wasm-dis:binaryen
+    needs wasm-dis:binaryen wasm-as:binaryen
     copied wasm
     sed -i 's/^capi staticlib:/capi wasm64:/' "$room/crates.txt"
     kit=$(kit)
@@ -244,7 +244,7 @@ standin() {
 }
 
 standin_wasm() {
-    needs clang:clang wasm-ld:lld wasm-opt:binaryen wasm-dis:binaryen python3:python3
+    needs clang:clang wasm-ld:lld wasm-dis:binaryen wasm-as:binaryen python3:python3
     interface
     clang --target=wasm64 -O2 -ffreestanding -DFREESTANDING -I"$prefix/include" -c "$top/packages/standin/standin.c" \
         -o "$build/standin.o"
@@ -256,7 +256,7 @@ standin_wasm() {
 # Packs a tarball for C and a wheel for each processor, the crate and the npm package into BUILD/dist, with their sums. The same
 # commit gives the same bytes in any folder: what is packed has the time of the commit, one owner and one order.
 dist() {
-    needs tar:tar gzip:gzip cargo:cargo npm:npm wasm-opt:binaryen wasm-dis:binaryen
+    needs tar:tar gzip:gzip cargo:cargo npm:npm wasm-dis:binaryen wasm-as:binaryen
     SOURCE_DATE_EPOCH=${SOURCE_DATE_EPOCH:-$(git -C "$top" log -1 --format=%ct 2> /dev/null || true)}
     [ -n "$SOURCE_DATE_EPOCH" ] || fail "there is no commit whose time the packages could have: set SOURCE_DATE_EPOCH to a number of seconds"
     export SOURCE_DATE_EPOCH LC_ALL=C
