@@ -69,6 +69,7 @@ check-documents:
 	python3 tools/documents.py
 	python3 tools/documents/sheets.py
 	python3 bench/speed.py
+	python3 tools/constant-time/summary.py
 check-c: $(PREFIX)/lib/libaeadkit.a
 	$(MAKE) -C packages/c check PREFIX="$(PREFIX)" OUT="$(BUILD)/c"
 check-rust: $(PREFIX)/lib/libaeadkit.a
