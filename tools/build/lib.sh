@@ -63,38 +63,48 @@ proved() {
 }
 
 # Makes STATIC/libaeadkit.a and SHARED/libaeadkit.so of an archive of objects: linked OBJECTS STATIC SHARED
-# Functions start at multiples of 64 bytes: otherwise the speed of one depends on the length of those before it. In the archive the
-# exported names are the only ones, and are hidden: a program or a plug-in that links it keeps them to itself. The archive also has
-# the name of the version node, which the Rust crate refers to, so that no other major version is linked. In the shared library the
-# functions of the C library are bound when it is loaded, and not on the stack of a first call.
+# Functions start at multiples of 64 bytes: otherwise the speed of one depends on the length of those before it. overlap.c stands in
+# front of the calls that write beside what they read, and takes their names: that of the proved function gets `_proved` behind. In
+# the archive the exported names are the only ones, and are hidden: a program or a plug-in that links it keeps them to itself. The
+# archive also has the name of the version node, which the Rust crate refers to, so that no other major version is linked. In the
+# shared library the functions of the C library are bound when it is loaded, and not on the stack of a first call.
 linked() {
     mkdir -p "$2" "$3"
-    $objcopy -w --set-section-alignment '.text.*=64' "$1" "$1.aligned"
+    overlap=$top/packages/c/src/overlap.c
+    grep -oE 'aeadkit_[a-z_]+_proved' "$overlap" | sort -u | sed 's/\(.*\)_proved/\1 &/' > "$1.proved"
+    $objcopy -w --redefine-syms="$1.proved" --set-section-alignment '.text.*=64' "$1" "$1.aligned"
+    $cc -std=c11 -O2 -fPIC -ffreestanding -fno-stack-protector -falign-functions=64 -I"$top/packages/c/include" -c "$overlap" -o "$1.overlap"
     {
         grep -oE 'aeadkit_[a-z_]+' "$exports" | sed 's/.*/.globl &\n.hidden &/'
         echo '.section .rodata'
         sed -nE 's/^(AEADKIT_[0-9]+) .*/.globl \1\n.hidden \1\n\1: .byte 1/p' "$exports"
         echo '.section .note.GNU-stack,"",%progbits'
     } | $cc -x assembler -c - -o "$1.hidden"
-    $ld -r -o "$1.o" --whole-archive "$1.aligned" "$1.hidden"
+    $ld -r -o "$1.o" --whole-archive "$1.aligned" --no-whole-archive "$1.overlap" "$1.hidden"
+    $objcopy -w --localize-symbol='aeadkit_*_proved' "$1.o"
     rm -f "$2/libaeadkit.a"
     $ar rcs "$2/libaeadkit.a" "$1.o"
     $cc -shared -o "$3/libaeadkit.so.$version" -Wl,-soname,"libaeadkit.so.$major" -Wl,-z,now -Wl,--no-undefined-version \
-        -Wl,--whole-archive "$1.aligned" -Wl,--no-whole-archive -Wl,--version-script="$exports"
+        -Wl,--whole-archive "$1.aligned" -Wl,--no-whole-archive "$1.overlap" -Wl,--version-script="$exports"
     ln -sf "libaeadkit.so.$version" "$3/libaeadkit.so.$major"
     ln -sf "libaeadkit.so.$major" "$3/libaeadkit.so"
 }
 cc=cc ld=ld ar=ar objcopy=objcopy
 
-# Sets these tools to those of the kit, for AArch64: its clang is each of them under another name. They need no C library for that
-# processor, and link none: memcpy, memmove, memset and bcmp are those of the program, of glibc as of musl.
+# Sets these tools to those of the kit, for AArch64: its clang is each of them under another name, and the types of overlap.c are
+# its own. No C library for that processor is needed, and none is linked: memcpy, memmove, memset and bcmp are those of the program,
+# of glibc as of musl.
 tools_of_kit() {
     llvm=$build/llvm
     mkdir -p "$llvm"
+    echo 'typedef __SIZE_TYPE__ size_t;' > "$llvm/stddef.h"
+    for type in uint8 uint32 uint64 uintptr; do
+        echo "typedef __$(echo $type | tr a-z A-Z)_TYPE__ ${type}_t;"
+    done > "$llvm/stdint.h"
     for name in clang ld.lld llvm-ar llvm-objcopy; do
         ln -sfn "$(kit)/toolchain/bin/clang" "$llvm/$name"
     done
-    cc="$llvm/clang --target=aarch64-unknown-linux-gnu --no-default-config -Qunused-arguments -fuse-ld=lld -nostdlib"
+    cc="$llvm/clang --target=aarch64-unknown-linux-gnu --no-default-config -Qunused-arguments -fuse-ld=lld -nostdlib -nostdinc -isystem $llvm"
     ld="$llvm/ld.lld -m aarch64linux" ar=$llvm/llvm-ar objcopy=$llvm/llvm-objcopy
 }
 

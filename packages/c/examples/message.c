@@ -2,8 +2,8 @@
 
      message [BYTE]
 
-   It prints the text that was opened, once for each way. With BYTE, from 0 to 41, somebody changes that byte of the sealing on
-   the way, and the receiver refuses it: status 1, and a line on standard error. */
+   What is sent is the nonce, and then the sealing. It prints the text that was opened, once for each way. With BYTE, from 0 to
+   53, somebody changes that byte on the way, and the receiver refuses it: status 1, and a line on standard error. */
 #define _DEFAULT_SOURCE
 #include "aeadkit.h"
 #include <stdio.h>
@@ -12,7 +12,7 @@
 #include <unistd.h>
 
 enum { SUITE = AEADKIT_CHACHA20_POLY1305, KEY = 32, NONCE = AEADKIT_NONCE_BYTES, TAG = AEADKIT_TAG_BYTES };
-enum { TEXT = 26, SEALED = TEXT + TAG };
+enum { TEXT = 26, SEALED = TEXT + TAG, MESSAGE = NONCE + SEALED };
 
 /* Returns whether a call is done, and says why if it is not. */
 static int done(const char *call, uint32_t status) {
@@ -22,26 +22,27 @@ static int done(const char *call, uint32_t status) {
 
 int main(int count, char **words) {
     const char *text = "The parcel leaves at nine.", *aad = "message to Vienna";
-    uint8_t key[KEY], nonce[NONCE] = {0}, tag[TAG], sealed[SEALED], opened[TEXT], place[TEXT];
-    int changed = count > 1 ? atoi(words[1]) : (int)SEALED, opens, opens_in_place;
+    uint8_t key[KEY], message[MESSAGE] = {0}, opened[TEXT];
+    uint8_t *nonce = message, *sealed = message + NONCE, *tag = sealed + TEXT; /* what is sent */
+    int changed = count > 1 ? atoi(words[1]) : (int)MESSAGE, opens, opens_in_place;
     if (getentropy(key, KEY)) return 1; /* both sides have it; 32 bytes, as aeadkit_key_length(SUITE) says */
 
     /* To other memory. The tag is the end of the sealing. */
-    nonce[0] = 1; /* the number of the message: it never comes twice under one key */
+    nonce[NONCE - 1] = 1; /* the number of the message, the highest byte first: it never comes twice under one key */
     if (!done("seal", aeadkit_seal(SUITE, key, KEY, nonce, NONCE, text, TEXT, aad, strlen(aad), sealed, SEALED))) return 1;
-    if (changed < SEALED) sealed[changed] ^= 1;
+    if (changed < MESSAGE) message[changed] ^= 1;
     opens = done("open", aeadkit_open(SUITE, key, KEY, nonce, NONCE, sealed, SEALED, aad, strlen(aad), opened, TEXT));
     if (opens) printf("%.*s\n", TEXT, (const char *)opened); /* otherwise `opened` is zeros */
 
-    /* In place. The tag is apart, and is sent behind the ciphertext. */
-    nonce[0] = 2;
-    memcpy(place, text, TEXT);
-    if (!done("seal in place", aeadkit_seal_in_place(SUITE, key, KEY, nonce, NONCE, place, TEXT, aad, strlen(aad), tag))) return 1;
-    if (changed < TEXT) place[changed] ^= 1;
-    else if (changed < SEALED) tag[changed - TEXT] ^= 1;
-    opens_in_place = done("open in place", aeadkit_open_in_place(SUITE, key, KEY, nonce, NONCE, place, TEXT,
+    /* In place: what is sent looks the same. */
+    memset(nonce, 0, NONCE);
+    nonce[NONCE - 1] = 2;
+    memcpy(sealed, text, TEXT);
+    if (!done("seal in place", aeadkit_seal_in_place(SUITE, key, KEY, nonce, NONCE, sealed, TEXT, aad, strlen(aad), tag))) return 1;
+    if (changed < MESSAGE) message[changed] ^= 1;
+    opens_in_place = done("open in place", aeadkit_open_in_place(SUITE, key, KEY, nonce, NONCE, sealed, TEXT,
                                                                  aad, strlen(aad), tag));
-    if (opens_in_place) printf("%.*s\n", TEXT, (const char *)place); /* otherwise `place` is still the ciphertext */
+    if (opens_in_place) printf("%.*s\n", TEXT, (const char *)sealed); /* otherwise it is still the ciphertext */
     explicit_bzero(key, KEY);
     return ferror(stdout) || fclose(stdout) || !opens || !opens_in_place; /* a text that was not written does not count */
 }

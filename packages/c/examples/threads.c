@@ -21,7 +21,7 @@ static void *work(void *first) {
         /* The nonce is the number of the record. Each thread has its own records, so no nonce comes twice under the key. */
         uint64_t number = (uint64_t)(r - records);
         uint8_t nonce[AEADKIT_NONCE_BYTES] = {0};
-        for (int i = 0; i < 8; i++) nonce[i] = (uint8_t)(number >> 8 * i);
+        for (int i = 0; i < 8; i++) nonce[4 + i] = (uint8_t)(number >> (56 - 8 * i));
         if (opening)
             r->status = aeadkit_open_in_place_with(&shared, nonce, sizeof nonce, r->text, TEXT, NULL, 0, r->tag);
         else

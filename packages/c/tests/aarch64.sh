@@ -29,12 +29,12 @@ CC=aarch64-linux-gnu-gcc "$here/names.sh" "$prefix" "$out"
 run() {
     $qemu -E LD_LIBRARY_PATH="$prefix/lib" "$out/$1" $2 || fail "$1 $2 fails"
 }
-for test in calls "pieces 1000" stack "vectors $here/../../../docs/published.vectors"; do
+for test in calls "pieces 1000" overlap stack "vectors $here/../../../docs/published.vectors"; do
     name=${test%% *}
     $cc "$here/$name.c" "$prefix/lib/libaeadkit.a" -Wl,-z,now -o "$out/$name"
     run "$name" "${test#"$name"}"
 done
-for name in calls stack; do
+for name in calls overlap stack; do
     # shellcheck disable=SC2046
     $cc "$here/$name.c" $(PKG_CONFIG_PATH=$prefix/lib/pkgconfig pkg-config --libs aeadkit) -Wl,-z,now -o "$out/$name.shared"
     run "$name.shared" ""

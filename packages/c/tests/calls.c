@@ -364,10 +364,10 @@ static void nothing(void) {
 /* ---- facts, and wiping ---- */
 
 static void facts(void) {
-    static const char *const texts[18] = {
+    static const char *const texts[19] = {
         "done", "wrong key length", "wrong nonce length", "text too long", "associated data too long", "too short",
         "authentication failed", "wrong length for wrapping", "unwrapping failed", "", "", "", "", "source changed",
-        "unknown suite", "not begun", "wrong output length", ""};
+        "unknown suite", "not begun", "wrong output length", "overlapping output", ""};
     for (uint32_t suite = 0; suite < 9; suite++) {
         int known = suite > 0 && suite <= SUITES;
         is("a key's length", aeadkit_key_length(suite) == (known ? key_lengths[suite] : 0));
@@ -377,7 +377,7 @@ static void facts(void) {
     }
     is("the largest number is not a suite", aeadkit_key_length(UINT32_MAX) == 0 && aeadkit_text_limit(UINT32_MAX) == 0
                                              && aeadkit_aad_limit(UINT32_MAX) == 0);
-    for (uint32_t status = 0; status < 18; status++)
+    for (uint32_t status = 0; status < 19; status++)
         is("a status's string", !strcmp(aeadkit_status_string(status), *texts[status] ? texts[status] : "unknown status"));
     is("the largest number is not a status", !strcmp(aeadkit_status_string(UINT32_MAX), "unknown status"));
     unsigned major = 0, minor = 0, patch = 0;
@@ -390,7 +390,9 @@ static void facts(void) {
                       && sizeof(struct aeadkit_siv) == AEADKIT_SIV_BYTES && sizeof(struct aeadkit_key) == AEADKIT_KEPT_KEY_BYTES);
 }
 
+/* A wiped struct is zeros to its last byte, whatever it held: anything, or a key or a message under a suite. */
 static void wiping(void) {
+    static const uint8_t zeros[32] = {0};
     struct {
         uint64_t before[2];
         struct aeadkit_key kept;
@@ -402,16 +404,24 @@ static void wiping(void) {
         struct aeadkit_siv siv;
         uint64_t after[2];
     } held;
-    memset(&held, 0xa5, sizeof held);
-    aeadkit_key_wipe(&held.kept);
-    is("wipe a key", all(&held.kept, sizeof held.kept, 0) && all(held.before, 16, 0xa5)
-                         && all(held.after_key, sizeof held - 16 - sizeof held.kept, 0xa5));
-    aeadkit_sealer_wipe(&held.sealer);
-    is("wipe a sealer", all(&held.sealer, sizeof held.sealer, 0) && all(held.after_key, 16, 0xa5) && all(held.after_sealer, 16, 0xa5));
-    aeadkit_opener_wipe(&held.opener);
-    is("wipe an opener", all(&held.opener, sizeof held.opener, 0) && all(held.after_sealer, 16, 0xa5) && all(held.after_opener, 16, 0xa5));
-    aeadkit_siv_wipe(&held.siv);
-    is("wipe a siv", all(&held.siv, sizeof held.siv, 0) && all(held.after_opener, 16, 0xa5) && all(held.after, 16, 0xa5));
+    for (uint32_t suite = 0; suite <= SUITES; suite++) {
+        size_t k = key_lengths[suite];
+        memset(&held, 0xa5, sizeof held);
+        if (suite) {
+            is("begin", aeadkit_key_init(&held.kept, suite, zeros, k) == AEADKIT_DONE
+                            && aeadkit_opener_init(&held.opener, suite, zeros, k, zeros, 12, "aad", 3, zeros) == AEADKIT_DONE
+                            && (suite > 4 || aeadkit_sealer_init(&held.sealer, suite, zeros, k, zeros, 12, "aad", 3) == AEADKIT_DONE)
+                            && (suite < 5 || aeadkit_siv_init(&held.siv, suite, zeros, k, zeros, 12, "aad", 3) == AEADKIT_DONE));
+        }
+        aeadkit_key_wipe(&held.kept);
+        aeadkit_sealer_wipe(&held.sealer);
+        aeadkit_opener_wipe(&held.opener);
+        aeadkit_siv_wipe(&held.siv);
+        is("wiped", all(&held.kept, sizeof held.kept, 0) && all(&held.sealer, sizeof held.sealer, 0)
+                        && all(&held.opener, sizeof held.opener, 0) && all(&held.siv, sizeof held.siv, 0));
+        is("beside what is wiped", all(held.before, 16, 0xa5) && all(held.after_key, 16, 0xa5) && all(held.after_sealer, 16, 0xa5)
+                                       && all(held.after_opener, 16, 0xa5) && all(held.after, 16, 0xa5));
+    }
 }
 
 int main(void) {

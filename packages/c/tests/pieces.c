@@ -297,7 +297,7 @@ static void by_a_kept_key(long number) {
     want(aeadkit_open_in_place_with(&held.kept, m.nonce, 12, pieces, length, m.aad, m.aad_length, pieces + length)
              == AEADKIT_TAG_MISMATCH, "a changed sealing opened in place by a kept key", number);
     want(!memcmp(pieces, whole, length + 16), "changed at a mismatch in place by a kept key", number);
-    want(aeadkit_seal_with(&held.kept, m.nonce, 11, pieces, 0, NULL, 0, pieces, 16) == AEADKIT_NONCE_LENGTH, "a nonce of 11 bytes",
+    want(aeadkit_seal_with(&held.kept, m.nonce, 11, text, 0, NULL, 0, pieces, 16) == AEADKIT_NONCE_LENGTH, "a nonce of 11 bytes",
          number);
     want(memcmp(&kept, &held.kept, sizeof kept) == 0, "a kept key was written", number);
     want(all(held.before, 16, 0xa5) && all(held.after, 16, 0xa5), "written beside a kept key", number);
