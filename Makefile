@@ -1,23 +1,25 @@
 # Builds, installs, tests and packs aeadkit.
 #
-#   make library              proves and builds the library for C: for any x86-64 processor, and for AVX2
+#   make library              proves and builds the library for C: for any x86-64-v2 processor, and for AVX2
+#   make library BUILDS=aarch64   the library for AArch64 Linux, on x86-64, into a PREFIX of its own
 #   make wasm                 proves and builds the WebAssembly module for JavaScript
 #   make install PREFIX=DIR   the library and the program, with the header, pages, completions and documents
 #   make check                every test below
 #   make check-NAME           one of documents, c, rust, python, javascript, program
+#   make check-aarch64        the library for AArch64, under QEMU
 #   make check STANDIN=1      the packages over an unproved stand-in of the library, without the toolchain, in two minutes
-#   make dist                 a tarball for C, a crate, a wheel, an npm package and SHA256SUMS, in BUILD/dist
+#   make dist                 tarballs for C, a crate, wheels, an npm package and SHA256SUMS, in BUILD/dist
 #   make bench                the speed of the library beside other libraries on this machine; WORDS="--kept 5"
 #   make constant-time        branches and addresses that depend on secrets; WORDS=--short
 #
-# PREFIX   what is built and tested; BUILD/prefix without it. A test builds what is not in PREFIX yet
+# PREFIX   what is built and tested; BUILD/prefix or BUILD/prefix-aarch64 without it. A test builds what is not in PREFIX yet
 # BUILD    the work: the copies that are proved, of 3 GB each. It stands beside the repository, since the gate, rt ci, lets
 #          no link and no other .rt file stand below the repository
-# BUILDS   the builds of the library: default avx2
+# BUILDS   the builds of the library: default avx2, or aarch64 alone
 # PROGRAM  the build of the program, default or avx2; without it the one that this machine runs
 BUILD ?= $(CURDIR)-build
-PREFIX ?= $(BUILD)/prefix
 BUILDS ?= default avx2
+PREFIX ?= $(BUILD)/prefix$(if $(filter check-aarch64,$(MAKECMDGOALS))$(filter aarch64,$(BUILDS)),-aarch64)
 WORDS ?=
 LIBRARY := library
 WASM := wasm
@@ -27,9 +29,9 @@ override PREFIX := $(abspath $(PREFIX))
 export BUILD BUILDS PROGRAM
 
 packages := check-c check-rust check-python check-javascript
-.PHONY: help library wasm program install check check-documents check-program dist bench constant-time $(packages)
+.PHONY: help library wasm program install ready check check-documents check-program check-aarch64 dist bench constant-time $(packages)
 help:
-	@sed -n '3,18s/^# \{0,1\}//p' Makefile
+	@sed -n '3,20s/^# \{0,1\}//p' Makefile
 
 ifneq ($(STANDIN),)
 check $(packages):
@@ -37,7 +39,7 @@ check $(packages):
 	$(MAKE) --no-print-directory $(if $(filter check,$@),check-documents $(packages),$@) \
 	    STANDIN= BUILD="$$room" PREFIX="$$room/prefix" LIBRARY=standin WASM=standin-wasm
 	@echo "ok: $@, over the stand-in$(if $(filter check,$@), (the program has none: make check-program))"
-library wasm program install dist bench constant-time check-program:
+library wasm program install dist bench constant-time check-program check-aarch64:
 	@echo "$@ takes no stand-in" >&2; exit 2
 else
 
@@ -60,11 +62,14 @@ $(PREFIX)/share/aeadkit/javascript/aeadkit.wasm:
 $(PREFIX)/bin/aeadkit:
 	tools/build/lib.sh program "$(PREFIX)"
 
-check: check-documents $(packages) check-program
+ready:
+	@tools/build/lib.sh ready "$(PREFIX)"
+check: ready check-documents $(packages) check-program
 check-documents:
 	python3 tools/documents.py
 	python3 tools/documents/sheets.py
 	python3 bench/speed.py
+	python3 tools/constant-time/summary.py
 check-c: $(PREFIX)/lib/libaeadkit.a
 	$(MAKE) -C packages/c check PREFIX="$(PREFIX)" OUT="$(BUILD)/c"
 check-rust: $(PREFIX)/lib/libaeadkit.a
@@ -74,8 +79,12 @@ check-python: $(PREFIX)/lib/libaeadkit.a
 	cd packages/python && AEADKIT_PREFIX="$(PREFIX)" PYTHONDONTWRITEBYTECODE=1 python3 -m unittest discover -s tests
 check-javascript: $(PREFIX)/share/aeadkit/javascript/aeadkit.wasm
 	cd packages/javascript && AEADKIT_PREFIX="$(PREFIX)" npm test
+	tools/build/lanes.py "$(PREFIX)/share/aeadkit/javascript/aeadkit.wasm"
 check-program: $(PREFIX)/bin/aeadkit
 	program/tests/check.sh "$(PREFIX)/bin/aeadkit"
+check-aarch64:
+	[ -e "$(PREFIX)/lib/libaeadkit.a" ] || BUILDS=aarch64 tools/build/lib.sh library "$(PREFIX)"
+	packages/c/tests/aarch64.sh "$(PREFIX)" "$(BUILD)/c-aarch64"
 
 bench: $(PREFIX)/lib/libaeadkit.a
 	bench/bench.sh "$(PREFIX)" $(WORDS)

@@ -1,12 +1,30 @@
 #!/bin/sh
-# What the Makefile runs to build and to pack: lib.sh library|program|wasm|standin|standin-wasm PREFIX, or lib.sh dist.
-# BUILD is the folder of the copies that are proved. BUILDS names the builds of the library, and PROGRAM that of the program.
+# What the Makefile runs to build and to pack: lib.sh library|program|wasm|standin|standin-wasm|ready PREFIX, lib.sh dist|missing,
+# or lib.sh same FOLDER FOLDER.
+# BUILD is the folder of the copies that are proved. BUILDS names the builds of the library, and PROGRAM that of the program:
+# `default` and `avx2` are for x86-64, and may stand in one prefix, and `aarch64` needs a prefix of its own.
 set -eu
 top=$(cd "$(dirname "$0")/../.." && pwd)
 build=${BUILD:-$top-build}
 exports=$top/packages/c/exports.map
 version=$(sed -n 's/^pub const VERSION: &str = "\(.*\)";$/\1/p' "$top/crates/command/src/version.rt")
 major=${version%%.*}
+
+fail() {
+    echo "lib.sh: $*" >&2
+    exit 1
+}
+
+# Fails unless each of these tools is there: needs TOOL:PACKAGE.. of Debian
+needs() {
+    for tool in "$@"; do
+        command -v "${tool%:*}" > /dev/null || fail "${tool%:*} is not there: install ${tool#*:}"
+    done
+}
+needs_rt() {
+    command -v "${RT:-rt}" > /dev/null || fail "rt is not there: put the bin folder of the Rattle kit into PATH"
+    needs python3:python3
+}
 
 # Prints a file with the version in the place of 0.0.0, and with its numbers in the macros of the header: filled FILE
 filled() {
@@ -54,22 +72,45 @@ linked() {
     mkdir -p "$2" "$3"
     overlap=$top/packages/c/src/overlap.c
     grep -oE 'aeadkit_[a-z_]+_proved' "$overlap" | sort -u | sed 's/\(.*\)_proved/\1 &/' > "$1.proved"
-    objcopy -w --redefine-syms="$1.proved" --set-section-alignment '.text.*=64' "$1" "$1.aligned"
-    cc -std=c11 -O2 -fPIC -ffreestanding -fno-stack-protector -falign-functions=64 -I"$top/packages/c/include" -c "$overlap" -o "$1.overlap"
+    $objcopy -w --redefine-syms="$1.proved" --set-section-alignment '.text.*=64' "$1" "$1.aligned"
+    $cc -std=c11 -O2 -fPIC -ffreestanding -fno-stack-protector -falign-functions=64 -I"$top/packages/c/include" -c "$overlap" -o "$1.overlap"
     {
         grep -oE 'aeadkit_[a-z_]+' "$exports" | sed 's/.*/.globl &\n.hidden &/'
         echo '.section .rodata'
         sed -nE 's/^(AEADKIT_[0-9]+) .*/.globl \1\n.hidden \1\n\1: .byte 1/p' "$exports"
-        echo '.section .note.GNU-stack,"",@progbits'
-    } | cc -x assembler -c - -o "$1.hidden"
-    ld -r -o "$1.o" --whole-archive "$1.aligned" --no-whole-archive "$1.overlap" "$1.hidden"
-    objcopy -w --localize-symbol='aeadkit_*_proved' "$1.o"
+        echo '.section .note.GNU-stack,"",%progbits'
+    } | $cc -x assembler -c - -o "$1.hidden"
+    $ld -r -o "$1.o" --whole-archive "$1.aligned" --no-whole-archive "$1.overlap" "$1.hidden"
+    $objcopy -w --localize-symbol='aeadkit_*_proved' "$1.o"
     rm -f "$2/libaeadkit.a"
-    ar rcs "$2/libaeadkit.a" "$1.o"
-    cc -shared -o "$3/libaeadkit.so.$version" -Wl,-soname,"libaeadkit.so.$major" -Wl,-z,now -Wl,--no-undefined-version \
+    $ar rcs "$2/libaeadkit.a" "$1.o"
+    $cc -shared -o "$3/libaeadkit.so.$version" -Wl,-soname,"libaeadkit.so.$major" -Wl,-z,now -Wl,--no-undefined-version \
         -Wl,--whole-archive "$1.aligned" -Wl,--no-whole-archive "$1.overlap" -Wl,--version-script="$exports"
     ln -sf "libaeadkit.so.$version" "$3/libaeadkit.so.$major"
     ln -sf "libaeadkit.so.$major" "$3/libaeadkit.so"
+}
+cc=cc ld=ld ar=ar objcopy=objcopy
+
+# Sets these tools to those of the kit, for AArch64: its clang is each of them under another name, and the types of overlap.c are
+# its own. No C library for that processor is needed, and none is linked: memcpy, memmove, memset and bcmp are those of the program,
+# of glibc as of musl.
+tools_of_kit() {
+    llvm=$build/llvm
+    mkdir -p "$llvm"
+    echo 'typedef __SIZE_TYPE__ size_t;' > "$llvm/stddef.h"
+    for type in uint8 uint32 uint64 uintptr; do
+        echo "typedef __$(echo $type | tr a-z A-Z)_TYPE__ ${type}_t;"
+    done > "$llvm/stdint.h"
+    for name in clang ld.lld llvm-ar llvm-objcopy; do
+        ln -sfn "$(kit)/toolchain/bin/clang" "$llvm/$name"
+    done
+    cc="$llvm/clang --target=aarch64-unknown-linux-gnu --no-default-config -Qunused-arguments -fuse-ld=lld -nostdlib -nostdinc -isystem $llvm"
+    ld="$llvm/ld.lld -m aarch64linux" ar=$llvm/llvm-ar objcopy=$llvm/llvm-objcopy
+}
+
+# Prints the folder of the kit.
+kit() {
+    dirname "$(dirname "$(realpath "$(command -v rt)")")"
 }
 
 # Lays out the header, and what pkg-config and CMake read.
@@ -82,15 +123,66 @@ interface() {
     done
 }
 
+# Fails, before anything is proved, at builds that cannot stand in this prefix, and at missing tools.
+buildable() {
+    needs_rt
+    for kind in $builds; do
+        case $kind in
+        default | avx2) needs cc:gcc ld:binutils ar:binutils objcopy:binutils
+            wanted=x86_64 ;;
+        aarch64)
+            [ "$builds" = aarch64 ] || fail "BUILDS=\"$builds\": a prefix is for one processor, so build aarch64 alone, into another PREFIX"
+            wanted=aarch64 ;;
+        *) fail "BUILDS=\"$builds\": there is no build '$kind', but default, avx2 and aarch64" ;;
+        esac
+    done
+    there=$(processor "$prefix/lib/libaeadkit.so")
+    [ "$there" = none ] || [ "$there" = "$wanted" ] || fail "$prefix has the library for $there: give another PREFIX for $wanted"
+}
+
+# Prints the packages of Debian that `make check` needs and that are not there.
+missing() {
+    for tool in cc:gcc c++:g++ ld:binutils make:make cmake:cmake pkg-config:pkg-config python3:python3 node:nodejs npm:npm cargo:cargo \
+        wasm-dis:binaryen groff:groff; do
+        command -v "${tool%:*}" > /dev/null || echo "${tool#*:}"
+    done
+}
+
+# Fails if `make check` would, for want of a tool or since the library in this prefix is for another processor.
+ready() {
+    packages=$(missing)
+    # shellcheck disable=SC2086
+    [ -z "$packages" ] || fail "tools for the tests are not there: install" $packages
+    there=$(processor "$prefix/lib/libaeadkit.so")
+    [ "$there" = none ] || [ "$there" = x86_64 ] || fail "$prefix has the library for $there: give another PREFIX, or make check-aarch64"
+}
+
+# Prints the processor of an ELF file: x86_64, aarch64, another one's number, or none if there is no file.
+processor() {
+    [ -e "$1" ] || { echo none; return; }
+    case $(od -An -tu2 -j18 -N2 "$1" | tr -d ' ') in
+    62) echo x86_64 ;;
+    183) echo aarch64 ;;
+    *) echo "another processor" ;;
+    esac
+}
+
 library() {
+    builds=${BUILDS:-default avx2}
+    buildable
     interface
     # A build for AVX2 that stays from an earlier run would be loaded in place of this library.
     rm -f "$prefix/lib/x86-64-v3/libaeadkit.a" "$prefix/lib/glibc-hwcaps/x86-64-v3/libaeadkit.so"*
-    for kind in ${BUILDS:-default avx2}; do
+    for kind in $builds; do
         copied "$kind"
-        cpu='' static=$prefix/lib shared=$prefix/lib
-        [ "$kind" = default ] || cpu=--cpu=x86-64-v3 static=$prefix/lib/x86-64-v3 shared=$prefix/lib/glibc-hwcaps/x86-64-v3
-        proved capi lib $cpu
+        words='' static=$prefix/lib shared=$prefix/lib
+        case $kind in
+        avx2) words=--cpu=x86-64-v3 static=$prefix/lib/x86-64-v3 shared=$prefix/lib/glibc-hwcaps/x86-64-v3 ;;
+        aarch64) words='--target aarch64-unknown-linux-gnu' ;;
+        esac
+        # shellcheck disable=SC2086
+        proved capi lib $words
+        [ "$kind" != aarch64 ] || tools_of_kit
         linked "$room/crates/capi/out/libcapi.a" "$static" "$shared"
     done
 }
@@ -116,13 +208,18 @@ javascript() {
     done
     cp "$top"/packages/javascript/*.mjs "$top"/packages/javascript/*.mts "$folder/"
     "$top/packages/javascript/lower.sh" "$1" "$folder/aeadkit.wasm"
+    python3 "$top/tools/build/lanes.py" "$folder/aeadkit.wasm"
 }
 
-# The compiler of this kit compiles vectors to simd128. Otherwise they are compiled a lane at a time, and AES-GCM is 10 times slower.
+# The kit's compiler, in a copy of the kit, gets a word and a step before it. Vectors are compiled to simd128: otherwise they are
+# compiled a lane at a time, and AES-GCM is 10 times slower. And look-ups become instructions: the kit writes them as loads from
+# addresses that depend on secrets.
 wasm() {
+    needs_rt
+    needs wasm-dis:binaryen wasm-as:binaryen
     copied wasm
     sed -i 's/^capi staticlib:/capi wasm64:/' "$room/crates.txt"
-    kit=$(dirname "$(dirname "$(realpath "$(command -v rt)")")")
+    kit=$(kit)
     clang=$room/kit/toolchain/bin/clang
     rm -rf "$room/kit"
     mkdir "$room/kit"
@@ -131,7 +228,16 @@ wasm() {
     cp -rs "$kit/bin" "$kit/toolchain" "$room/kit/"
     cp --remove-destination "$kit/bin/rt" "$kit/bin/rtlib.py" "$room/kit/bin/"
     rm "$clang"
-    printf '#!/bin/sh\nexec "%s" "$@" -msimd128\n' "$kit/toolchain/bin/clang" > "$clang"
+    cat > "$clang" << END
+#!/bin/sh
+set -eu
+clang=$kit/toolchain/bin/clang
+case " \$* " in *' -x ir module.bc '*)
+    "\$clang" --target=wasm64-unknown-unknown --no-default-config -S -emit-llvm -Xclang -disable-llvm-passes -x ir module.bc -o module.ll
+    python3 "$top/tools/build/swizzle.py" < module.ll > module.bc ;;
+esac
+exec "\$clang" "\$@" -msimd128
+END
     chmod +x "$clang"
     PATH=$room/kit/bin:$PATH
     proved capi lib
@@ -140,6 +246,7 @@ wasm() {
 
 # The stand-in: the calls of the header in plain C, slow and unproved, for tests of the packages without the toolchain.
 standin() {
+    needs cc:gcc ld:binutils ar:binutils objcopy:binutils
     interface
     cc -O1 -fPIC -I"$prefix/include" -c "$top/packages/standin/standin.c" -o "$build/standin.o"
     ar rcs "$build/standin.a" "$build/standin.o"
@@ -147,6 +254,7 @@ standin() {
 }
 
 standin_wasm() {
+    needs clang:clang wasm-ld:lld wasm-dis:binaryen wasm-as:binaryen python3:python3
     interface
     clang --target=wasm64 -O2 -ffreestanding -DFREESTANDING -I"$prefix/include" -c "$top/packages/standin/standin.c" \
         -o "$build/standin.o"
@@ -155,31 +263,53 @@ standin_wasm() {
     javascript "$build/standin.wasm"
 }
 
-# Packs the tarball for C, the crate, the wheel and the npm package into BUILD/dist, with their sums.
+# Packs a tarball for C and a wheel for each processor, the crate and the npm package into BUILD/dist, with their sums. The same
+# commit gives the same bytes in any folder: what is packed has the time of the commit, one owner and one order.
 dist() {
-    out=$build/dist
-    prefix=$build/aeadkit-$version-x86_64-linux
-    package=$build/aeadkit-$version
-    rm -rf "$out" "$prefix" "$package"
+    needs tar:tar gzip:gzip cargo:cargo npm:npm wasm-dis:binaryen wasm-as:binaryen
+    SOURCE_DATE_EPOCH=${SOURCE_DATE_EPOCH:-$(git -C "$top" log -1 --format=%ct 2> /dev/null || true)}
+    [ -n "$SOURCE_DATE_EPOCH" ] || fail "there is no commit whose time the packages could have: set SOURCE_DATE_EPOCH to a number of seconds"
+    export SOURCE_DATE_EPOCH LC_ALL=C
+    umask 022
+    out=$build/dist package=$build/aeadkit-$version builds_here=${BUILDS:-default avx2}
+    rm -rf "$out" "$package"
     mkdir -p "$out"
-    library
-    cp "$top/packages/c/README.md" "$prefix/"
-    tar -C "$build" -czf "$out/${prefix##*/}.tar.gz" --owner=0 --group=0 "${prefix##*/}"
     cp -R "$top/packages/rust" "$package"
-    for folder in lib lib/x86-64-v3; do
-        [ ! -e "$prefix/$folder/libaeadkit.a" ] || install -D -m 644 "$prefix/$folder/libaeadkit.a" "$package/$folder/libaeadkit.a"
+    for processor in x86_64 aarch64; do
+        prefix=$build/aeadkit-$version-$processor-linux BUILDS=$builds_here
+        [ $processor = x86_64 ] || BUILDS=aarch64
+        rm -rf "$prefix"
+        mkdir "$prefix"
+        library
+        cp "$top/packages/c/README.md" "$prefix/"
+        tar -C "$build" --sort=name --mtime="@$SOURCE_DATE_EPOCH" --owner=0 --group=0 --numeric-owner --mode=u=rwX,go=rX --format=gnu -c \
+            "${prefix##*/}" | gzip -9n > "$out/${prefix##*/}.tar.gz"
+        for archive in libaeadkit.a x86-64-v3/libaeadkit.a; do
+            [ ! -e "$prefix/lib/$archive" ] || install -D -m 644 "$prefix/lib/$archive" "$package/lib/$processor/$archive"
+        done
+        AEADKIT_PREFIX=$prefix PYTHONDONTWRITEBYTECODE=1 python3 "$top/packages/python/backend.py" "$out"
     done
     (cd "$package" && CARGO_TARGET_DIR="$build/cargo" cargo package --quiet --offline --no-verify --allow-dirty)
     cp "$build/cargo/package/aeadkit-$version.crate" "$out/"
-    AEADKIT_PREFIX=$prefix PYTHONDONTWRITEBYTECODE=1 python3 "$top/packages/python/backend.py" "$out"
     wasm
     (cd "$out" && npm pack --silent "$prefix/share/aeadkit/javascript" && sha256sum -- * > ../SHA256SUMS && mv ../SHA256SUMS .)
+}
+
+# Compares two folders that dist made, perhaps in different places and at different times: same FOLDER FOLDER
+same() {
+    for folder in "$@"; do
+        [ -e "$folder/SHA256SUMS" ] || fail "$folder has no SHA256SUMS: give two folders that make dist made"
+        (cd "$folder" && sha256sum --quiet -c SHA256SUMS) || fail "$folder has other files than its SHA256SUMS says"
+    done
+    diff "$1/SHA256SUMS" "$2/SHA256SUMS" || fail "these artefacts differ"
+    echo "ok: $(wc -l < "$1/SHA256SUMS") artefacts are the same, byte for byte"
 }
 
 command=$1
 prefix=${2:-}
 case $command in
-library | program | wasm | standin | standin-wasm)
+library | program | wasm | standin | standin-wasm | ready)
+    [ -n "$prefix" ] || fail "give a PREFIX"
     mkdir -p "$prefix"
     prefix=$(cd "$prefix" && pwd) ;;
 esac
@@ -190,6 +320,9 @@ program) program ;;
 wasm) wasm ;;
 standin) standin ;;
 standin-wasm) standin_wasm ;;
+ready) ready ;;
 dist) dist ;;
-*) sed -n '2,3s/^# //p' "$0" >&2; exit 2 ;;
+missing) missing ;;
+same) same "$2" "$3" ;;
+*) sed -n '2,5s/^# //p' "$0" >&2; exit 2 ;;
 esac

@@ -1,9 +1,9 @@
-/* Makes every call of libaeadkit that takes a secret. constant-time.sh runs this program under valgrind.
+/* Makes every call of libaeadkit that takes a secret. constant-time.sh runs this program under valgrind and under QEMU.
 
    calls cells                                  prints a line 'SUITE CALL VARIANT' for each cell
    calls taint SUITE CALL VARIANT whole|short   under memcheck: marks the secrets as undefined, so that memcheck reports each
                                                 conditional jump and each address that depends on them, during CALL alone
-   calls trace SUITE CALL VARIANT whole|short   under lackey: runs CALL over the same lengths with several secrets, between the
+   calls trace SUITE CALL VARIANT whole|short   under QEMU: runs CALL over the same lengths with several secrets, between the
                                                 marks by which traces.c cuts the trace
 
    Secret are keys, texts, what a call decrypts, and of the structs each byte that differs between keys. Public are suites,
@@ -453,8 +453,13 @@ static void print_cells(unsigned of, const char *const *calls) {
 }
 
 static void cells(void) {
+#ifdef __x86_64__
+    int has_avx2 = __builtin_cpu_supports("avx2");
+#else
+    int has_avx2 = 0;
+#endif
     for (const struct known *k = known_code; k->name; k++)
-        if (!strstr(k->name, "32") || __builtin_cpu_supports("avx2"))
+        if (!strstr(k->name, "32") || has_avx2)
             printf("0 %s ok %d %d %d %d\n", k->name, k->taint_branches, k->taint_addresses, k->trace_branches, k->trace_addresses);
     for (unsigned s = 1; s <= 6; s++) {
         print_cells(s, whole_calls);
@@ -508,7 +513,7 @@ static void taint(const struct kind *kind, size_t n, size_t a, uint64_t number) 
     kind->run(n, a, number);
 }
 
-/* Runs the target under lackey with several secrets. First it runs without a mark: a first call may look functions up. */
+/* Runs the target under QEMU with several secrets. First it runs without a mark: a first call may look functions up. */
 static void trace(const struct kind *kind, size_t n, size_t a) {
     inputs(n, a, 99);
     kind->run(n, a, 0);

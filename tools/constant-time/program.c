@@ -9,7 +9,8 @@
    is next asked for or returned.
    CHANGED=READING flips a bit of the byte at DIFFERENCE in one reading of the file. Readings are counted from 1 as they are begun.
    GROUP=LENGTH begins a group of runs over texts of this length; each later run of it has GROUP=-. The variables of all have the
-   same length, since the stack begins below them. */
+   same length, since the stack begins below them.
+   TRACED says that the program runs under QEMU. */
 #include "marks.h"
 #include <dlfcn.h>
 #include <stdlib.h>
@@ -33,7 +34,7 @@ static int number_of(const char *variable) {
 }
 
 __attribute__((constructor)) static void begin(void) {
-    if (!RUNNING_ON_VALGRIND) return; /* but one of the programs that start it */
+    if (!RUNNING_ON_VALGRIND && !getenv("TRACED")) return; /* but one of the programs that start valgrind */
     for (const char *digits = getenv("SECRETS"); digits && *digits; secret_count++) {
         for (unsigned byte; sscanf(digits, "%2x", &byte) == 1 && *digits != ' '; digits += 2)
             secrets[secret_count].bytes[secrets[secret_count].length++] = (unsigned char)byte;

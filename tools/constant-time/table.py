@@ -1,4 +1,4 @@
-"""Runs the cells of calls.c under valgrind for constant-time.sh, joins what memcheck and the traces say, and writes the table.
+"""Runs the cells of calls.c for constant-time.sh, joins what memcheck and the traces of QEMU's plugin say, and writes the table.
 
 A site is an instruction, of which one of these is said:
   branch    a conditional jump, or a jump to an address, that depends on a secret: memcheck reports it, or traces part there
@@ -10,6 +10,7 @@ A site is an instruction, of which one of these is said:
 import argparse
 import concurrent.futures
 import os
+import pathlib
 import random
 import re
 import subprocess
@@ -25,10 +26,15 @@ WRAP_COMMANDS = [(command + pad, variant) for pad in ("", " --pad")
 # What the table says of the variants of a call, and with which status the program ends: the call succeeds; it refuses; or one reading
 # of a file is over other bytes than those before it: the second of an opening has another tag, the last one another text.
 VARIANTS = {"ok": "", "no": ", refused", "second": ", second reading changed", "last": ", last reading changed"}
+# The columns of the file of --record. `traces` counts the runs of each call over every length with several secrets, `memcheck` the
+# calls that memcheck looked at; branches, addresses and verdicts are places in the library.
+COLUMNS = ("build", "suite", "calls", "traces", "instructions", "memcheck", "lengths of memcheck", "branches", "addresses", "verdicts",
+           "commit")
 STATUSES = {"ok": 0, "no": 1, "second": 3, "last": 3}
 # The names of the library's calls. That of a command of the program is two words or more.
 OF_LIBRARY = r"\S+"
-# Under --short all calls of one suite of each construction, and of the others these. AES-192 has a schedule of its own.
+# Under --short memcheck looks at all calls of one suite of each construction, and of the others at these. AES-192 has a schedule of
+# its own.
 SHORT_SUITES = ("1", "2", "6", "16")
 SHORT_CALLS = r"seal_in_place|open_in_place|key_init|seal_with|wrap|unwrap"
 # Only these calls return a verdict: no other call has a status that depends on a secret.
@@ -36,20 +42,35 @@ VERDICTS = r"open(_in_place)?(_with)?|opener_begin_second|opener_finish|siv_fini
 # More bytes than a stretch of code has that valgrind translates at once.
 STRETCH = 800
 # Instructions whose time depends on their operands on some processors. Neither run sees that.
-VARIABLE = re.compile(r"v?(i?div[bwlq]?|pdep|pext|[sd]?div[sp][sd]|sqrt[sp][sd]|p?gather\w+|pcmp[ei]str\w) ")
+VARIABLE = re.compile(r"(v?(i?div[bwlq]?|pdep|pext|[sd]?div[sp][sd]|sqrt[sp][sd]|p?gather\w+|pcmp[ei]str\w)|[us]div|f(div|sqrt)) ")
+# What objdump puts behind an instruction. A number of AArch64 has the sign # too.
+COMMENT = re.compile(r"#(?![-\dx])|//")
+# Conditional jumps of both processors.
+JUMP = re.compile(r"j[^m]|b\.|cbn?z |tbn?z ")
 # `bt` of registers: valgrind computes it by way of memory, and reports the number of the bit as an address.
 BIT_OF_REGISTER = re.compile(r"bt[scr]?[lqw]? +%\w+,%\w+$")
 
 options = argparse.ArgumentParser()
-for option in ("room", "builds", "suites", "calls", "claimed", "jobs", "verdicts", "lengths", "write"):
+for option in ("room", "builds", "suites", "calls", "claimed", "jobs", "verdicts", "lengths", "write", "record", "commit", "qemu",
+               "native", "memcheck", "objdump"):
     options.add_argument("--" + option)
 options = options.parse_args()
+# The words that run a program for the library's processor under QEMU, as fast as possible, and under memcheck.
+qemu, native, memcheck = options.qemu.split(), options.native.split(), options.memcheck.split()
 environment = dict(os.environ, LD_BIND_NOW="1")
 
 
 def run(*words, **variables):
     """Runs words and returns all that was printed."""
     return subprocess.run(words, env=dict(environment, **variables), stdout=subprocess.PIPE, stderr=subprocess.STDOUT, text=True)
+
+
+def traced(words, variables, *options_of_qemu):
+    """The words and the variables of a run under QEMU. A library that is put before others is not put before those of QEMU."""
+    variables = dict(environment, **variables)
+    before = variables.pop("LD_PRELOAD", None)
+    inside = ["-E", f"LD_PRELOAD={before}", "-E", "TRACED=1"] if before else []
+    return [*qemu, *options_of_qemu, *inside, *words], variables
 
 
 class Objects:
@@ -64,29 +85,30 @@ class Objects:
         for low, high, bias, name in self.rows:
             if low <= address < high:
                 return name, address - bias
-        return "the stack" if address > 0x1f00000000 else "other memory", address
+        return "other memory", address
 
     def address(self, place):
         return next((bias + place[1] for _, _, bias, name in self.rows if name == place[0]), None)
 
 
 class Target:
-    """A program of one build that runs under valgrind: calls.c over the library, or aeadkit itself behind program.c."""
+    """A program of one build that is looked at: calls.c over the library, or aeadkit itself behind program.c."""
 
     def __init__(self, build, path, words, **variables):
         self.build, self.path = build, path
-        # Under lackey the objects lie elsewhere than under memcheck.
-        output = run("valgrind", "-q", "--tool=lackey", "--log-file=/dev/null", path, *words, **variables).stdout
+        # Under QEMU the objects lie elsewhere than under memcheck.
+        command, variables = traced([path, *words], variables)
+        output = run(*command, **variables).stdout
         self.traced = Objects(output)
         self.marks = re.search("marks (.*)", output)[1].split()
         self.code = {}
         for name in {"libaeadkit.so", os.path.basename(path)} & {row[3] for row in self.traced.rows}:
-            for line in run("objdump", "-d", "--no-show-raw-insn", f"{os.path.dirname(path)}/{name}").stdout.splitlines():
+            for line in run(options.objdump, "-d", "--no-show-raw-insn", f"{os.path.dirname(path)}/{name}").stdout.splitlines():
                 if line.endswith(">:"):
                     function = line[line.index("<") + 1:-2]
                 elif ":\t" in line:
                     at, instruction = line.split(":\t", 1)
-                    self.code[name, int(at, 16)] = function, re.sub(r"\s+", " ", instruction.split("#")[0]).strip()
+                    self.code[name, int(at, 16)] = function, re.sub(r"\s+", " ", COMMENT.split(instruction)[0]).strip()
 
     def where(self, place):
         """The function and the instruction that stand at a place."""
@@ -112,7 +134,8 @@ class Cell:
         """The runs of the call: their words and their variables."""
         if self.call.startswith("aeadkit "):
             return program_runs(self, way)
-        return [([self.target.path, way, self.suite, self.call, self.variant, options.lengths], {})]
+        lengths = options.lengths if way == "taint" else "whole"
+        return [([self.target.path, way, self.suite, self.call, self.variant, lengths], {})]
 
     def status(self):
         """The status that each run has to end with."""
@@ -123,7 +146,7 @@ class Cell:
         found = set()
         for words, variables in self.commands("taint"):
             log = f"{options.room}/{self.target.build}/{self.suite}.{self.call}.{self.variant}.log"
-            taint = run("valgrind", "-q", "--num-callers=1", "--error-limit=no", "--leak-check=no", f"--log-file={log}", more,
+            taint = run(*memcheck, "-q", "--num-callers=1", "--error-limit=no", "--leak-check=no", f"--log-file={log}", more,
                         "--soname-synonyms=somalloc=nouserintercepts", *words, **variables)
             if taint.returncode != self.status():
                 self.faults.append(f"under memcheck the status is {taint.returncode}: {taint.stdout.splitlines()[-1]}")
@@ -146,7 +169,14 @@ class Cell:
                         self.faults.append(f"memcheck: {line}")
         return found
 
+    def is_tainted(self):
+        """Whether memcheck looks at the cell."""
+        return bool(memcheck) and (options.lengths == "whole" or self.suite in ("0", *SHORT_SUITES)
+                                   or bool(re.fullmatch(SHORT_CALLS, self.call)))
+
     def taint(self):
+        if not self.is_tainted():
+            return
         # Within a stretch of code that valgrind translates at once memcheck reports a value once, and takes it as public from
         # then on. So a stretch is one instruction in the first run. In the second it is a whole one, since over a stretch memcheck
         # knows which of the flags a jump tests. A jump that only the first run reports counts if a site stands shortly before it.
@@ -160,32 +190,33 @@ class Cell:
 
     def trace(self, places):
         """Traces the runs, and follows where they go from these places."""
-        traced = self.target.traced
-        followed = [f"{traced.address(place):x}" for place in places if traced.address(place)]
+        objects = self.target.traced
+        followed = [f"{objects.address(place):x}" for place in places if objects.address(place)]
         read, write = os.pipe()
         cut = subprocess.Popen([f"{options.room}/traces", *self.target.marks, *followed], stdin=read, stdout=subprocess.PIPE,
                                text=True)
         os.close(read)
         lengths = []
+        marks = ",".join(f"{name}={mark}" for name, mark in zip(("group", "secret", "on", "off"), self.target.marks))
         for words, variables in self.commands("trace"):
-            lackey = subprocess.run(["valgrind", "--tool=lackey", "--trace-mem=yes", f"--log-fd={write}", *words], pass_fds=[write],
-                                    env=dict(environment, **variables), stdout=subprocess.PIPE, stderr=subprocess.STDOUT, text=True)
-            if lackey.returncode != self.status():
-                self.faults.append(f"under lackey the status is {lackey.returncode}: {lackey.stdout.splitlines()[-1]}")
-            lengths += [tuple(line.split()[1:3]) for line in lackey.stdout.splitlines() if line.startswith("group ")]
+            words, variables = traced(words, variables, "-plugin", f"{options.room}/plugin.so,fd={write},{marks}")
+            done = subprocess.run(words, pass_fds=[write], env=variables, stdout=subprocess.PIPE, stderr=subprocess.STDOUT, text=True)
+            if done.returncode != self.status():
+                self.faults.append(f"under QEMU the status is {done.returncode}: {(done.stdout.splitlines() or [''])[-1]}")
+            lengths += [tuple(line.split()[1:3]) for line in done.stdout.splitlines() if line.startswith("group ")]
         os.close(write)
         output = cut.communicate()[0]
         for line in output.splitlines():
             kind, *row = line.split()
             if kind == "site":
-                place = traced.place(int(row[0], 16))
+                place = objects.place(int(row[0], 16))
                 if not BIT_OF_REGISTER.match(self.target.where(place)[1]):
                     site = self.sites.setdefault((place, row[1]), Site())
                     site.trace, site.low, site.high = True, int(row[2], 16), int(row[3], 16)
             elif kind == "ran":
-                self.ran.add(traced.place(int(row[0], 16)))
+                self.ran.add(objects.place(int(row[0], 16)))
             elif kind == "went" and int(row[3]):
-                self.went.setdefault(traced.place(int(row[0], 16)), {})[lengths[int(row[1])]] = row[2:]
+                self.went.setdefault(objects.place(int(row[0], 16)), {})[lengths[int(row[1])]] = row[2:]
             elif kind == "runs":
                 self.runs, self.instructions = map(int, row)
             elif kind == "lost":
@@ -209,7 +240,7 @@ def program_runs(cell, way):
     path = cell.target.path
     room = f"{os.path.dirname(path)}/{cell.suite}.{cell.call}.{cell.variant}".replace(" ", ".")
     lengths = (9, 16, 20) if pad else (24, 40) if int(cell.suite) > 6 else (17, 300, 5000)
-    for length in lengths if options.lengths == "whole" else lengths[:2]:
+    for length in lengths if way == "trace" or options.lengths == "whole" else lengths[:2]:
         for secret in range(1 if way == "taint" else 3):
             draw = random.Random(f"{cell.suite} {length} {secret}").randbytes
             key, text = draw(KEYS[cell.suite]).hex(), draw(length)
@@ -268,8 +299,7 @@ def claims(cell):
 
 def asked(suite, call):
     """Whether a call of a suite is to be looked at."""
-    return suite in options.suites.split() and re.fullmatch(options.calls, call) and (
-        options.lengths == "whole" or suite in SHORT_SUITES or re.fullmatch(SHORT_CALLS, call))
+    return suite in options.suites.split() and re.fullmatch(options.calls, call)
 
 
 def commands_of(suite):
@@ -298,7 +328,7 @@ def all_cells(builds):
     for build in builds:
         folder = f"{options.room}/{build}"
         calls = Target(build, f"{folder}/calls", ["trace", "0", "-", "ok", "short"])
-        rows = [(calls, *line.split()) for line in run(calls.path, "cells").stdout.splitlines()]
+        rows = [(calls, *line.split()) for line in run(*native, calls.path, "cells").stdout.splitlines()]
         for target, suite, call, variant, *numbers in rows + program_cells(build):
             if suite == "0":
                 known[call] = [int(number) for number in numbers]
@@ -329,6 +359,8 @@ def judge(cells, known):
         if suite == "0":
             found = [sum(1 for (_, kind), site in cell.sites.items() if kind == of and getattr(site, by))
                      for by in ("taint", "trace") for of in ("branch", "address")]
+            if not cell.is_tainted():
+                found[:2] = known[call][:2]
             if found != known[call]:
                 failures.append(f"known code {call}: {found} in the place of {known[call]}")
             continue
@@ -404,10 +436,29 @@ def summary(target, cells):
     variable = {function for function, instruction in code.values() if VARIABLE.match(instruction + " ")}
     yield f"{target.build}: divisions, square roots, gathers, pdep and pext: {', '.join(sorted(variable)) or 'none'}"
     ran = set().union(*[cell.ran for cell in cells])
-    jumps = {at: function for at, (function, instruction) in code.items() if re.match(r"j[^m]", instruction)}
+    jumps = {at: function for at, (function, instruction) in code.items() if JUMP.match(instruction)}
     never = set(jumps.values()) - {code[at][0] for at in ran if at in code}
     yield f"{target.build}: {sum(1 for at in jumps if at in ran)} of {len(jumps)} conditional jumps of the library ran in a trace"
     yield f"{target.build}: functions with jumps that did not run: {', '.join(sorted(never)) or 'none'}"
+
+
+def record(cells, places):
+    """Puts a row for each build and suite into the file of --record."""
+    path, new = pathlib.Path(options.record), {}
+    for cell in cells.values():
+        if cell.suite != "0" and re.fullmatch(OF_LIBRARY, cell.call):
+            new.setdefault((cell.target.build, cell.suite), []).append(cell)
+    old = path.read_text(encoding="utf-8").splitlines() if path.exists() else []
+    rows = {tuple(row.split("\t")[:2]): row for row in old if not row.startswith("#")}
+    for (build, suite), of in new.items():
+        found = {kind: {place for (_, its), at in places.items() if its == kind for (name, place), by in at.items()
+                        if name == build and any(cell in of for cell, _ in by)} for kind in ("branch", "address", "verdict")}
+        tainted = sum(cell.is_tainted() for cell in of)
+        rows[build, suite] = "\t".join(map(str, (
+            build, suite, len(of), sum(cell.runs for cell in of), sum(cell.instructions for cell in of), tainted,
+            {"whole": "all", "short": "some"}[options.lengths] if tainted else "none", *map(len, found.values()), options.commit)))
+    order = sorted(rows, key=lambda key: (("default", "x86-64-v3", "aarch64").index(key[0]), int(key[1])))
+    path.write_text("".join(f"{row}\n" for row in ["# " + "\t".join(COLUMNS), *(rows[key] for key in order)]), encoding="utf-8")
 
 
 def main():
@@ -428,6 +479,8 @@ def main():
             out.writelines(line + "\n" for line in lines)
     else:
         print(*lines, sep="\n")
+    if options.record:
+        record(cells, places)
     for failure in failures:
         print("FAILED " + failure)
     sites = [kind for _, kind in places]

@@ -1,5 +1,5 @@
-/* Reads a trace of valgrind's lackey (--trace-mem=yes), and prints where runs of one call over the same lengths, with different
-   secrets, part. Memcheck follows what may depend on a secret; this sees what did.
+/* Reads a trace of plugin.c, and prints where runs of one call over the same lengths, with different secrets, part. Memcheck follows
+   what may depend on a secret; this sees what did.
 
    traces GROUP SECRET ON OFF [PC..] < TRACE
    GROUP, SECRET, ON, OFF: the addresses of the marks (marks.h), by which the trace is cut.
@@ -106,7 +106,6 @@ static void compare(const struct run *a, const struct run *b, unsigned group) {
 }
 
 int main(int argc, char **argv) {
-    static char line[1 << 16];
     static struct run runs_of_group[MOST_RUNS];
     uint64_t marks[4], instructions = 0, runs = 0;
     unsigned group = 0;
@@ -115,11 +114,11 @@ int main(int argc, char **argv) {
     if (argc < 5) return 2;
     for (int i = 0; i < 4; i++) marks[i] = strtoull(argv[1 + i], NULL, 16);
     for (;;) {
-        int more = fgets(line, sizeof line, stdin) != NULL;
-        char kind = more ? (line[0] == 'I' ? 'I' : line[0] == ' ' ? line[1] : 0) : 0;
-        if (more && kind != 'I' && kind != 'L' && kind != 'S' && kind != 'M') continue;
-        uint64_t address = more ? strtoull(line + 2, NULL, 16) : 0;
-        int ends = !more || (kind == 'S' && (address == marks[0] || address == marks[1]));
+        uint64_t word = 0;
+        int more = fread(&word, sizeof word, 1, stdin) == 1;
+        enum { RUNS, READS, WRITES } kind = word >> 62;
+        uint64_t address = word << 2 >> 2;
+        int ends = !more || (kind == WRITES && (address == marks[0] || address == marks[1]));
         struct run *run = &runs_of_group[before];
         if (ends && in_run) {
             instructions += run->count;
@@ -148,10 +147,10 @@ int main(int argc, char **argv) {
                 run->count = run->data_count = 0;
                 in_run = 1;
             }
-        } else if (kind == 'S' && address == marks[2]) on = 1;
-        else if (kind == 'S' && address == marks[3]) on = 0;
+        } else if (kind == WRITES && address == marks[2]) on = 1;
+        else if (kind == WRITES && address == marks[3]) on = 0;
         else if (on && in_run) {
-            if (kind == 'I') add_pc(run, address);
+            if (kind == RUNS) add_pc(run, address);
             else add_data(run, address);
         }
     }

@@ -1,5 +1,6 @@
 #!/bin/sh
 # Compares the names of the library in PREFIX with exports.map and the header: names.sh PREFIX OUT
+# CC is a compiler for the library's processor. readelf reads the files of any.
 set -eu
 prefix=$1
 out=$2
@@ -18,14 +19,18 @@ sed -nE 's/^[A-Za-z].*[ *](aeadkit_[a-z_]+)\(.*/\1/p' "$prefix/include/aeadkit.h
 same "$out/exports" "$out/declared" aeadkit.h
 
 # Each name is that of this major version. No function is called but four of the C library.
+# Prints the names that a library exports, or that it takes from others: symbols LIBRARY ==|!= of UND
+symbols() {
+    readelf --dyn-syms -W "$1" | awk "\$5 == \"GLOBAL\" && \$7 $2 \"UND\" { print \$8 }" | sort
+}
 sed "s/\$/@@$node/" "$out/exports" > "$out/versioned"
 for library in "$prefix/lib/libaeadkit.so" "$prefix/lib/glibc-hwcaps/x86-64-v3/libaeadkit.so"; do
     [ -e "$library" ] || continue
-    nm -D --defined-only "$library" | awk -v node="$node" '$3 != node { print $3 }' | sort > "$out/names"
+    symbols "$library" != | grep -v "^$node" > "$out/names"
     same "$out/versioned" "$out/names" "$library"
-    called=$(nm -D --undefined-only "$library" | awk '$1 == "U" { print $2 }' | grep -vE '^(mem(cpy|move|set|cmp)|bcmp)(@|$)' || true)
+    called=$(symbols "$library" == | grep -vE '^(mem(cpy|move|set|cmp)|bcmp)(@|$)' || true)
     [ -z "$called" ] || fail "$library calls $called"
-    objdump -p "$library" | grep -q "SONAME *libaeadkit.so.${node#*_}\$" || fail "$library has another SONAME"
+    readelf -d "$library" | grep -q "SONAME.*\[libaeadkit.so.${node#*_}\]\$" || fail "$library has another SONAME"
 done
 
 # The archive has these names and that of the version, and hides them from whoever does not link it.
@@ -38,6 +43,6 @@ done
 echo '#include <aeadkit.h>
 uint32_t plugin(void);
 uint32_t plugin(void) { return aeadkit_version(); }' > "$out/plugin.c"
-cc -shared -fPIC -I"$prefix/include" "$out/plugin.c" "$prefix/lib/libaeadkit.a" -o "$out/plugin.so"
-[ "$(nm -D --defined-only "$out/plugin.so" | awk '{ print $3 }')" = plugin ] || fail "a plug-in that links the archive exports its names"
+${CC:-cc} -shared -fPIC -I"$prefix/include" "$out/plugin.c" "$prefix/lib/libaeadkit.a" -o "$out/plugin.so"
+[ "$(symbols "$out/plugin.so" !=)" = plugin ] || fail "a plug-in that links the archive exports its names"
 echo "ok: the names of the library"

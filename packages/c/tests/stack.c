@@ -1,6 +1,6 @@
 /* Measures the stack that each call takes, under every suite, with texts and pieces of several lengths and also where it
-   refuses, and fails if that is more than AEADKIT_STACK_BYTES. The calls are made in a thread whose whole stack is 32 KiB. It
-   prints what is wrong, or with the word `print`, in a thread of 256 KiB, what each call took.
+   refuses, and fails if that is more than AEADKIT_STACK_BYTES. The calls are made in a thread whose whole stack is 32 KiB, or the
+   least that the C library allows. It prints what is wrong, or with the word `print`, in a thread of 256 KiB, what each call took.
 
    Before a call the stack below the caller is painted. What is no longer paint afterwards was used; and the pages beyond the
    allowed bytes are closed, so that a touch which leaves the paint as it was ends the program. */
@@ -11,12 +11,14 @@
 #include <stdlib.h>
 #include <string.h>
 #include <sys/mman.h>
+#include <unistd.h>
 
-enum { STACK = 1 << 15, PRINTING = 1 << 18, PAGE = 4096, FRAME = 256, MOST = 1 << 16, NAMES = 64, COUNT = 7 };
+enum { STACK = 1 << 15, PRINTING = 1 << 18, FRAME = 256, MOST = 1 << 16, NAMES = 64, COUNT = 7 };
 
 static const uint64_t paint = 0x5bd1e995a3c59ac3;
 static unsigned char *base, *lowest, *caller; /* the stack's end, the first byte that a call may use, where a call begins */
 static int printing;
+static size_t page; /* 4, 16 or 64 KiB on AArch64 */
 static const char *wrong_status; /* the last call with a wrong status */
 static struct {
     const char *call;
@@ -28,7 +30,7 @@ __attribute__((noinline)) static void before(void) {
     caller = (unsigned char *)__builtin_frame_address(0);
     lowest = base;
     if (!printing && caller - base > AEADKIT_STACK_BYTES) {
-        lowest += ((size_t)(caller - base) - AEADKIT_STACK_BYTES) / PAGE * PAGE;
+        lowest += ((size_t)(caller - base) - AEADKIT_STACK_BYTES) / page * page;
         if (lowest > base && mprotect(base, (size_t)(lowest - base), PROT_NONE)) abort();
     }
     for (unsigned char *p = lowest; p < caller - FRAME; p += 8) *(volatile uint64_t *)p = paint;
@@ -191,14 +193,16 @@ int main(int count, char **words) {
     pthread_attr_t attributes;
     pthread_t thread;
     printing = count == 2 && !strcmp(words[1], "print");
-    size_t size = printing ? PRINTING : STACK;
-    base = (unsigned char *)mmap(NULL, PAGE + size, PROT_READ | PROT_WRITE, MAP_PRIVATE | MAP_ANONYMOUS, -1, 0);
-    if (base == MAP_FAILED || mprotect(base, PAGE, PROT_NONE) || pthread_attr_init(&attributes)
-        || pthread_attr_setstack(&attributes, base + PAGE, size)) {
+    page = (size_t)sysconf(_SC_PAGESIZE);
+    size_t size = printing ? PRINTING : STACK, least = (size_t)sysconf(_SC_THREAD_STACK_MIN);
+    size = ((size < least ? least : size) + page - 1) / page * page;
+    base = (unsigned char *)mmap(NULL, page + size, PROT_READ | PROT_WRITE, MAP_PRIVATE | MAP_ANONYMOUS, -1, 0);
+    if (base == MAP_FAILED || mprotect(base, page, PROT_NONE) || pthread_attr_init(&attributes)
+        || pthread_attr_setstack(&attributes, base + page, size)) {
         printf("wrong: no stack\n");
         return 1;
     }
-    base += PAGE;
+    base += page;
     if (pthread_create(&thread, &attributes, every_call, NULL) || pthread_join(thread, NULL)) {
         printf("wrong: no thread\n");
         return 1;
