@@ -150,6 +150,30 @@ standin_wasm() {
     javascript "$build/standin.wasm"
 }
 
+# Builds the wheel over the prefix, for the processor of its archive: wheel FOLDER
+# The extension is for the stable ABI of Python, so the headers of this machine's Python serve for another processor too; those of
+# Debian include one file of a folder that is named after the processor. Every pip that knows Python 3.11 knows the tag.
+wheel() {
+    room=$build/python
+    rm -rf "$room"
+    cp -R "$top/packages/python" "$room"
+    case $(LC_ALL=C readelf -h "$prefix/lib/libaeadkit.a") in
+    *AArch64*) cpu=aarch64 ;;
+    *) cpu=x86_64 ;;
+    esac
+    cc=${CC:-cc}
+    if [ "$cpu" != "$(uname -m)" ]; then
+        cc=${CC:-$cpu-linux-gnu-gcc}
+        ln -s "/usr/include/$(uname -m)-linux-gnu" "$room/$cpu-linux-gnu"
+    fi
+    (cd "$room" && rm -rf build && umask 022 && AEADKIT_PREFIX=$prefix SOURCE_DATE_EPOCH=400000000 CC=$cc LDSHARED="$cc -shared" \
+        CFLAGS="-I$room" "${PYTHON:-python3}" setup.py -q bdist_wheel -p "manylinux_2_17_$cpu" -d "$1") > "$room/log" 2>&1 || {
+        tail -n 20 "$room/log" >&2
+        exit 1
+    }
+    ! readelf -VW "$room"/build/lib*/aeadkit/*.so | grep -E 'GLIBC_2\.(1[89]|[2-9][0-9])' >&2
+}
+
 # Packs the tarball for C, the crate, the wheel and the npm package into BUILD/dist, with their sums.
 dist() {
     out=$build/dist
@@ -166,7 +190,7 @@ dist() {
     done
     (cd "$package" && CARGO_TARGET_DIR="$build/cargo" cargo package --quiet --offline --no-verify --allow-dirty)
     cp "$build/cargo/package/aeadkit-$version.crate" "$out/"
-    AEADKIT_PREFIX=$prefix PYTHONDONTWRITEBYTECODE=1 python3 "$top/packages/python/backend.py" "$out"
+    wheel "$out"
     wasm
     (cd "$out" && npm pack --silent "$prefix/share/aeadkit/javascript" && sha256sum -- * > ../SHA256SUMS && mv ../SHA256SUMS .)
 }
