@@ -152,27 +152,26 @@ standin_wasm() {
 
 # Builds the wheel over the prefix, for the processor of its archive: wheel FOLDER
 # The extension is for the stable ABI of Python, so the headers of this machine's Python serve for another processor too; those of
-# Debian include one file of a folder that is named after the processor. Every pip that knows Python 3.11 knows the tag.
-wheel() {
+# Debian include one from a folder that is named after the processor. Every pip for Python 3.11 knows the tag, which says 2.17 of glibc.
+wheel() (
     room=$build/python
     rm -rf "$room"
     cp -R "$top/packages/python" "$room"
-    case $(LC_ALL=C readelf -h "$prefix/lib/libaeadkit.a") in
-    *AArch64*) cpu=aarch64 ;;
-    *) cpu=x86_64 ;;
-    esac
-    cc=${CC:-cc}
-    if [ "$cpu" != "$(uname -m)" ]; then
-        cc=${CC:-$cpu-linux-gnu-gcc}
-        ln -s "/usr/include/$(uname -m)-linux-gnu" "$room/$cpu-linux-gnu"
-    fi
-    (cd "$room" && rm -rf build && umask 022 && AEADKIT_PREFIX=$prefix SOURCE_DATE_EPOCH=400000000 CC=$cc LDSHARED="$cc -shared" \
-        CFLAGS="-I$room" "${PYTHON:-python3}" setup.py -q bdist_wheel -p "manylinux_2_17_$cpu" -d "$1") > "$room/log" 2>&1 || {
-        tail -n 20 "$room/log" >&2
+    rm -rf "$room/build"
+    processor=x86_64
+    ! LC_ALL=C readelf -h "$prefix/lib/libaeadkit.a" | grep -q AArch64 || processor=aarch64
+    compiler=cc
+    [ $processor = "$(uname -m)" ] || compiler=$processor-linux-gnu-gcc
+    ln -s "/usr/include/$(uname -m)-linux-gnu" "$room/$processor-linux-gnu"
+    umask 022
+    cd "$room"
+    AEADKIT_PREFIX=$prefix SOURCE_DATE_EPOCH=${SOURCE_DATE_EPOCH:-400000000} CC=$compiler LDSHARED="$compiler -shared" CFLAGS="-I$room" \
+        "${PYTHON:-python3}" setup.py -q bdist_wheel -p "manylinux_2_17_$processor" -d "$1" > log 2>&1 || {
+        tail -n 20 log >&2
         exit 1
     }
-    ! readelf -VW "$room"/build/lib*/aeadkit/*.so | grep -E 'GLIBC_2\.(1[89]|[2-9][0-9])' >&2
-}
+    ! readelf -VW build/lib*/aeadkit/*.so | grep -E 'GLIBC_2\.(1[89]|[2-9][0-9])' >&2
+)
 
 # Packs the tarball for C, the crate, the wheel and the npm package into BUILD/dist, with their sums.
 dist() {

@@ -3,7 +3,7 @@
 >>> import os
 >>> from aeadkit import Key, Suite
 >>> key = Key(Suite.CHACHA20_POLY1305, os.urandom(32))
->>> nonce = (1).to_bytes(12, "big")  # the number of the message under this key: a counter that is stored before it is used
+>>> nonce = (1).to_bytes(12, "big")  # the number of the message under this key
 >>> sealed = key.seal(nonce, b"the text", aad=b"a label")
 >>> key.open(nonce, sealed, aad=b"a label")
 b'the text'
@@ -13,19 +13,19 @@ what the text is and where it belongs. `aeadkit.aead` has the classes AESGCM, AE
 cryptography (PyCA), and `aeadkit.keywrap` its functions for AES key wrap.
 
 Arguments. Keys, nonces, associated data and texts are bytes, or an object that gives bytes, such as a bytearray, a
-memoryview, an mmap or a numpy array of uint8. Anything else is a TypeError. They are read where they are, and copied only if
-they are not contiguous: no other thread may change them during the call. The calls in place change what a memoryview shows,
-which no other thread may read or write meanwhile: memoryview(data)[1:5]. Anything else is a TypeError there, since data[1:5]
-of a bytearray is a copy, which would be sealed and lost.
+memoryview, an mmap or a numpy array of uint8. Anything else is a TypeError. They are read where they are, and no other thread
+may change them during the call. The calls in place change what a memoryview shows, such as memoryview(data)[1:5], which no
+other thread may read or write meanwhile. They take nothing else: data[1:5] of a bytearray is a copy, which would be lost.
 
 Exceptions. Failed authentication is InvalidTag, and so is a sealing that is shorter than a tag. A call in the wrong order,
-after close or in a forked process is a StateError. Both are Refused. A wrong length and an unknown suite are ValueErrors.
-After any other exception in the middle of a message, such as KeyboardInterrupt, begin it again under another nonce.
+after close or in a forked process is a StateError. All exceptions of this package are Refused. A wrong length and an unknown
+suite are ValueErrors. After any other exception in the middle of a message, such as KeyboardInterrupt, begin the message
+again under another nonce.
 
-Threads and processes. Other threads run during a call over 2 KiB or more. A Key may be shared by threads, and a forked process may use it, but a fork copies a counter of nonces
-too: give each process its own key, or its own part of the nonce. A Sealer, an Opener and a SivSealer run one call at a
-time, in the order in which the threads make them. They cannot be copied, pickled or used in a forked process, since two
-copies would seal two texts under one nonce.
+Threads and processes. Other threads run during a call over 2 KiB or more. A Key may be shared by threads, and a forked process
+may use it, but a fork copies a counter of nonces too: give each process its own key, or its own part of the nonce. A Sealer, an
+Opener and a SivSealer run one call at a time, in the order in which the threads make them. They cannot be copied, pickled or
+used in a forked process, since two copies would seal two texts under one nonce.
 
 Memory. The structs that hold keys are wiped by close, at the end of a with statement, and when the object is deleted.
 Python's own bytes are not wiped. No suite looks up memory by a secret byte or branches on one; this was looked for in the
@@ -53,7 +53,7 @@ __version__: str = lib.VERSION
 
 
 class Refused(Exception):
-    """The base of the exceptions of this package. A wrong length is a ValueError, and a wrong type a TypeError, as elsewhere."""
+    """The base of the exceptions of this package."""
 
 
 class InvalidTag(Refused):
@@ -72,7 +72,7 @@ class SourceChanged(Refused):
 
 
 class Overlap(Refused):
-    """The text of a call in place is memory of another argument of it too. Nothing was changed."""
+    """The text of a call in place shares memory with another argument of the call. Nothing was changed."""
 
 
 class StateError(Refused):
@@ -87,9 +87,10 @@ _FAULTS: dict[int, tuple[type[Exception], str]] = {
     5: (InvalidTag, "authentication failed"),
     6: (InvalidTag, "authentication failed"),
     13: (SourceChanged, "the second pass was given other bytes than the first"),
-    14: (ValueError, "the call does not take this suite: siv_sealer and SivSealer are for AES-GCM-SIV, sealer and Sealer for the others"),
+    14: (ValueError, "the call does not take this suite: siv_sealer and SivSealer are for AES-GCM-SIV, sealer and Sealer for "
+                     "the other suites"),
     15: (StateError, "the call is out of order: not begun, in another pass, or finished"),
-    17: (Overlap, "the text and another argument of the call in place are the same memory"),
+    17: (Overlap, "the text of the call in place shares memory with another argument"),
 }
 
 
@@ -195,8 +196,8 @@ class Key(_HasStruct):
 
     Never seal twice with one nonce under one key. Nothing here notices a repeat. Under ChaCha20-Poly1305 and AES-GCM it gives
     away the XOR of the two texts and enough to forge messages; under AES-GCM-SIV only whether the messages are the same. Use
-    a counter, or at most 2**32 random nonces under one key. A sealing in pieces uses its nonce up even if it is never
-    finished.
+    a counter that is stored before it is used, as 12 bytes with the highest first; where nonces are drawn at random take
+    AES-256-GCM-SIV, and draw at most 2**32 under one key. A sealing in pieces uses its nonce up even if it is never finished.
 
     ValueError if the key is not `suite.key_bytes` long. The calls raise ValueError if the nonce is not 12 bytes long, or if the
     text or the associated data is longer than `suite.text_limit` or `suite.aad_limit`, and StateError after close.
