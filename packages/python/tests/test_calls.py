@@ -216,6 +216,9 @@ class Order(unittest.TestCase):
         siv.finish()
         self.assertEqual(bytes(piece) + tag, Key(SIV, KEY).seal(NONCE, TEXT, aad=b"aad"))
         self.refused((siv.absorb, b""), (siv.begin_second,), (siv.update, b""), (siv.finish,))
+        siv = Key(SIV, KEY).siv_sealer(NONCE, aad=b"aad")
+        siv.absorb(TEXT)
+        self.assertEqual(siv.begin_second(), tag)
 
     def test_a_refusal_ends_the_state(self):
         for suite in Suite:
