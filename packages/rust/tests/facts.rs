@@ -11,15 +11,12 @@ unsafe extern "C" {
     safe fn aeadkit_opener_size() -> usize;
     safe fn aeadkit_siv_size() -> usize;
     safe fn aeadkit_version() -> u32;
-    fn aeadkit_suite_named(name: *const u8, name_length: usize) -> u32;
 }
 
 #[test]
 fn suites() {
     for (suite, number) in Suite::ALL.into_iter().zip(1..) {
         let name = suite.name();
-        // SAFETY: pointer and length are those of one string.
-        assert_eq!(number, unsafe { aeadkit_suite_named(name.as_ptr(), name.len()) });
         assert_eq!((suite as u32, Suite::try_from(number)), (number, Ok(suite)));
         assert_eq!((format!("{suite:>20}"), name.parse()), (format!("{name:>20}"), Ok(suite)));
         assert_eq!(suite.key_bytes(), aeadkit_key_length(number));

@@ -1,4 +1,4 @@
-//! The code of README.md that writes the traits of the crate `aead` 0.5 over `Key`, compiled against a stub of that crate.
+//! `examples/aead/traits.rs`, which has the traits of the crate `aead` 0.5 over `Key`, over a stub of that crate.
 
 /// What the code uses of `aead` 0.5. There the lengths are types of `typenum`, and the arrays are those of `generic_array`.
 #[rustfmt::skip]
@@ -46,12 +46,7 @@ mod aead {
     }
 }
 
-include!("traits/over_key.rs");
-
-#[test]
-fn the_readme_has_this_code() {
-    assert!(include_str!("../README.md").contains(include_str!("traits/over_key.rs")));
-}
+include!("../examples/aead/traits.rs");
 
 #[test]
 fn there_and_back() {
