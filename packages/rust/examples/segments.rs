@@ -1,0 +1,156 @@
+//! Seals or opens a text of any size in segments, from pipe to pipe: segments seal|open KEYFILE LABEL < IN > OUT
+//!
+//! `docs/SEGMENTS.md` of the repository is the format, which the examples in C, Python and JavaScript have too. KEYFILE holds a
+//! wrapping key of 32 random bytes. Opening writes a segment as soon as it is authentic. If a later one is refused, the status
+//! is 1: throw OUT away.
+
+use aeadkit::{Aad, Error, Key, NONCE_BYTES, Suite, TAG_BYTES, WrappingKey, unwrap, wrap};
+use std::io::{self, ErrorKind::InvalidData, Read, Write};
+
+const MAGIC: &[u8; 4] = b"SEG1";
+const HEAD: usize = 48;
+/// The most bytes of text in a segment.
+const LONGEST: usize = 1 << 20;
+
+fn invalid(error: Error) -> io::Error {
+    io::Error::new(InvalidData, error)
+}
+
+/// Runs a step on each segment and its nonce. An empty source has one segment, which is empty too.
+fn segments(
+    from: &mut impl Read,
+    length: usize,
+    mut step: impl FnMut(&[u8; NONCE_BYTES], &mut [u8]) -> io::Result<()>,
+) -> io::Result<()> {
+    let mut read = || {
+        let mut segment = Vec::with_capacity(length);
+        from.take(length as u64).read_to_end(&mut segment).map(|_| segment)
+    };
+    let mut segment = read()?;
+    for number in 0u64.. {
+        let following = read()?;
+        let mut nonce = [0; NONCE_BYTES];
+        nonce[3..11].copy_from_slice(&number.to_be_bytes());
+        nonce[11] = following.is_empty().into();
+        step(&nonce, &mut segment)?;
+        if following.is_empty() {
+            break;
+        }
+        segment = following;
+    }
+    Ok(())
+}
+
+/// Seals a text under a data key that no other text has.
+fn seal(
+    wrapping_key: WrappingKey<'_>,
+    label: &[u8],
+    data_key: &[u8; 32],
+    length: usize,
+    from: &mut impl Read,
+    to: &mut impl Write,
+) -> io::Result<()> {
+    let mut head = [0; HEAD];
+    head[..4].copy_from_slice(MAGIC);
+    head[4..8].copy_from_slice(&(length as u32).to_be_bytes());
+    wrap(wrapping_key, data_key, &mut head[8..]).map_err(invalid)?;
+    to.write_all(&head)?;
+    let (key, aad) = (Key::new(Suite::ChaCha20Poly1305, data_key).map_err(invalid)?, [&head, label].concat());
+    segments(from, length, |nonce, segment| {
+        let tag = key.seal_in_place(nonce, segment, Aad(&aad)).map_err(invalid)?;
+        to.write_all(segment)?;
+        to.write_all(&*tag)
+    })?;
+    to.flush() // a buffer that is dropped hides that it could not write
+}
+
+fn open(wrapping_key: WrappingKey<'_>, label: &[u8], from: &mut impl Read, to: &mut impl Write) -> io::Result<()> {
+    let (mut head, mut data_key) = ([0; HEAD], [0; 32]);
+    from.read_exact(&mut head)?;
+    let length = u32::from_be_bytes([head[4], head[5], head[6], head[7]]) as usize;
+    if !head.starts_with(MAGIC) || !(1..=LONGEST).contains(&length) {
+        return Err(io::Error::new(InvalidData, "not a text in segments"));
+    }
+    unwrap(wrapping_key, &head[8..], &mut data_key).map_err(invalid)?;
+    let (key, aad) = (Key::new(Suite::ChaCha20Poly1305, &data_key).map_err(invalid)?, [&head, label].concat());
+    segments(from, length + TAG_BYTES, |nonce, segment| {
+        let (text, tag) = segment.split_last_chunk_mut().ok_or(invalid(Error::TooShort))?;
+        key.open_in_place(nonce, text, tag, Aad(&aad)).map_err(invalid)?;
+        to.write_all(text)
+    })?;
+    to.flush()
+}
+
+fn main() -> io::Result<()> {
+    let words: Vec<_> = std::env::args().skip(1).collect();
+    let words: Vec<_> = words.iter().map(String::as_str).collect();
+    let ["seal" | "open", key_file, label] = words[..] else {
+        return Err(io::Error::other("usage: segments seal|open KEYFILE LABEL < IN > OUT"));
+    };
+    let key: [u8; 32] =
+        std::fs::read(key_file)?.try_into().map_err(|_| io::Error::other("KEYFILE is not 32 bytes long"))?;
+    let (from, to) = (&mut io::stdin().lock(), &mut io::stdout().lock());
+    if words[0] == "open" {
+        return open(WrappingKey(&key), label.as_bytes(), from, to);
+    }
+    let mut data_key = [0; 32];
+    std::fs::File::open("/dev/urandom")?.read_exact(&mut data_key)?;
+    seal(WrappingKey(&key), label.as_bytes(), &data_key, LONGEST, from, to)
+}
+
+#[cfg(test)]
+fn sealed(text: &[u8], label: &[u8], length: usize, data_key: &[u8; 32]) -> Vec<u8> {
+    let mut to = vec![];
+    seal(WrappingKey(b"a key of 32 bytes for the sample"), label, data_key, length, &mut &text[..], &mut to).unwrap();
+    to
+}
+
+/// The text and whether all of it opened.
+#[cfg(test)]
+fn opened(sealed: &[u8], label: &[u8]) -> (Vec<u8>, bool) {
+    let mut to = vec![];
+    let result = open(WrappingKey(b"a key of 32 bytes for the sample"), label, &mut &sealed[..], &mut to);
+    (to, result.is_ok())
+}
+
+#[test]
+fn the_sample_opens_and_is_what_its_text_becomes() {
+    let path = concat!(env!("CARGO_MANIFEST_DIR"), "/../c/examples/sample.segments");
+    let Ok(sample) = std::fs::read(path) else {
+        return eprintln!("skipped: {path} is not there, as outside the repository");
+    };
+    let data_key = 0xbc16c5b8_c40f39f2_7087475a_a6c2e7c0_u128.to_be_bytes();
+    let data_key = [data_key, 0x81432bae_2d2eb4fb_f7d8ee83_ccb23344_u128.to_be_bytes()].concat().try_into().unwrap();
+    let text = b"The parcel leaves at nine, and the letter at ten.\n";
+    assert_eq!(opened(&sample, b"sample"), (text.to_vec(), true));
+    assert_eq!(sealed(text, b"sample", 16, &data_key), sample);
+}
+
+#[test]
+fn what_opens() {
+    for length in [0, 1, 15, 16, 17, 50] {
+        let text: Vec<u8> = (0..length).collect();
+        let whole = sealed(&text, b"label", 16, &[5; 32]);
+        assert_eq!(opened(&whole, b"label"), (text.clone(), true));
+        let refused = |sealed: &[u8], label: &[u8]| {
+            let (beginning, is_whole) = opened(sealed, label);
+            assert!(!is_whole && text.starts_with(&beginning));
+        };
+        for place in 0..whole.len() {
+            let mut changed = whole.clone();
+            changed[place] ^= 1;
+            refused(&changed, b"label");
+            refused(&whole[..place], b"label");
+        }
+        refused(&whole, b"another label");
+        refused(&[&whole[..], &[0]].concat(), b"label");
+        // segments exchanged, left out and doubled
+        let parts: Vec<_> = whole[HEAD..].chunks(32).collect();
+        for order in [&[1, 0, 2, 3][..], &[1, 2, 3], &[0, 0, 1, 2, 3]].into_iter().filter(|_| length == 50) {
+            refused(
+                &[&whole[..HEAD], &order.iter().map(|i| parts[*i]).collect::<Vec<_>>().concat()].concat(),
+                b"label",
+            );
+        }
+    }
+}
