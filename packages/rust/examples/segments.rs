@@ -99,58 +99,61 @@ fn main() -> io::Result<()> {
 }
 
 #[cfg(test)]
-fn sealed(text: &[u8], label: &[u8], length: usize, data_key: &[u8; 32]) -> Vec<u8> {
-    let mut to = vec![];
-    seal(WrappingKey(b"a key of 32 bytes for the sample"), label, data_key, length, &mut &text[..], &mut to).unwrap();
-    to
-}
+mod tests {
+    use super::*;
 
-/// The text and whether all of it opened.
-#[cfg(test)]
-fn opened(sealed: &[u8], label: &[u8]) -> (Vec<u8>, bool) {
-    let mut to = vec![];
-    let result = open(WrappingKey(b"a key of 32 bytes for the sample"), label, &mut &sealed[..], &mut to);
-    (to, result.is_ok())
-}
+    const KEY: WrappingKey<'static> = WrappingKey(b"a key of 32 bytes for the sample");
 
-#[test]
-fn the_sample_opens_and_is_what_its_text_becomes() {
-    let path = concat!(env!("CARGO_MANIFEST_DIR"), "/../c/examples/sample.segments");
-    let Ok(sample) = std::fs::read(path) else {
-        return eprintln!("skipped: {path} is not there, as outside the repository");
-    };
-    let data_key = 0xbc16c5b8_c40f39f2_7087475a_a6c2e7c0_u128.to_be_bytes();
-    let data_key = [data_key, 0x81432bae_2d2eb4fb_f7d8ee83_ccb23344_u128.to_be_bytes()].concat().try_into().unwrap();
-    let text = b"The parcel leaves at nine, and the letter at ten.\n";
-    assert_eq!(opened(&sample, b"sample"), (text.to_vec(), true));
-    assert_eq!(sealed(text, b"sample", 16, &data_key), sample);
-}
+    fn sealed(text: &[u8], data_key: &[u8; 32]) -> Vec<u8> {
+        let mut to = vec![];
+        seal(KEY, b"sample", data_key, 16, &mut &text[..], &mut to).unwrap();
+        to
+    }
 
-#[test]
-fn what_opens() {
-    for length in [0, 1, 15, 16, 17, 50] {
-        let text: Vec<u8> = (0..length).collect();
-        let whole = sealed(&text, b"label", 16, &[5; 32]);
-        assert_eq!(opened(&whole, b"label"), (text.clone(), true));
-        let refused = |sealed: &[u8], label: &[u8]| {
-            let (beginning, is_whole) = opened(sealed, label);
-            assert!(!is_whole && text.starts_with(&beginning));
+    /// The text that opens, and whether it is the whole.
+    fn opened(sealed: &[u8], label: &[u8]) -> (Vec<u8>, bool) {
+        let mut to = vec![];
+        let result = open(KEY, label, &mut &sealed[..], &mut to);
+        (to, result.is_ok())
+    }
+
+    #[test]
+    fn the_sample_opens_and_is_what_its_text_becomes() {
+        let path = concat!(env!("CARGO_MANIFEST_DIR"), "/../c/examples/sample.segments");
+        let Ok(sample) = std::fs::read(path) else {
+            return eprintln!("skipped: {path} is not there, as outside the repository");
         };
-        for place in 0..whole.len() {
-            let mut changed = whole.clone();
-            changed[place] ^= 1;
-            refused(&changed, b"label");
-            refused(&whole[..place], b"label");
-        }
-        refused(&whole, b"another label");
-        refused(&[&whole[..], &[0]].concat(), b"label");
-        // segments exchanged, left out and doubled
-        let parts: Vec<_> = whole[HEAD..].chunks(32).collect();
-        for order in [&[1, 0, 2, 3][..], &[1, 2, 3], &[0, 0, 1, 2, 3]].into_iter().filter(|_| length == 50) {
-            refused(
-                &[&whole[..HEAD], &order.iter().map(|i| parts[*i]).collect::<Vec<_>>().concat()].concat(),
-                b"label",
-            );
+        let halves = [0xbc16c5b8c40f39f27087475aa6c2e7c0_u128, 0x81432bae2d2eb4fbf7d8ee83ccb23344];
+        let data_key = halves.map(u128::to_be_bytes).concat().try_into().unwrap();
+        let text = b"The parcel leaves at nine, and the letter at ten.\n";
+        assert_eq!(opened(&sample, b"sample"), (text.to_vec(), true));
+        assert_eq!(sealed(text, &data_key), sample);
+    }
+
+    #[test]
+    fn what_is_refused() {
+        for length in [0, 1, 15, 16, 17, 50] {
+            let text: Vec<u8> = (0..length).collect();
+            let whole = sealed(&text, &[5; 32]);
+            assert_eq!(opened(&whole, b"sample"), (text.clone(), true));
+            let refused = |sealed: &[u8], label: &[u8]| {
+                let (beginning, is_whole) = opened(sealed, label);
+                assert!(!is_whole && text.starts_with(&beginning));
+            };
+            for place in 0..whole.len() {
+                let mut changed = whole.clone();
+                changed[place] ^= 1;
+                refused(&changed, b"sample");
+                refused(&whole[..place], b"sample");
+            }
+            refused(&whole, b"another label");
+            refused(&[&whole[..], &[0]].concat(), b"sample");
+            // segments exchanged, left out and doubled
+            let parts: Vec<_> = whole[HEAD..].chunks(32).collect();
+            for order in [&[1, 0, 2, 3][..], &[1, 2, 3], &[0, 0, 1, 2, 3]].into_iter().filter(|_| length == 50) {
+                let parts: Vec<_> = order.iter().map(|i| parts[*i]).collect();
+                refused(&[&whole[..HEAD], &parts.concat()].concat(), b"sample");
+            }
         }
     }
 }
