@@ -40,8 +40,8 @@ fi
 records=$(sed -n '1s/.*`\(records [0-9]*\)`.*/\1/p' "$docs/published.vectors")
 [ "$(aeadkit check "$docs/published.vectors")" = "$records" ] || fail "published.vectors has not $records that agree"
 for command in aeadkit $(aeadkit help | awk '/^$/ { on = 0 } on && $1 != "help" { print $1 } /^Commands:/ { on = 1 }'); do
-    aeadkit help ${command#aeadkit} | grep -v '^Usage:' > help
-    [ "$(wc -L < help)" -le 79 ] || fail "the help of $command has lines of more than 79 columns"
+    aeadkit help ${command#aeadkit} | grep -v "^Usage:" > "$room/help"
+    [ "$(wc -L < "$room/help")" -le 79 ] || fail "the help of $command has lines of more than 79 columns"
 done
 
 # ---- Completions.
