@@ -27,9 +27,9 @@ sentences() {
     paragraphs '!^(Usage|Commands|Arguments|Options|Example|A fault|A vector file|See also)' "${1:-}" | shown
 }
 
-# Text as lines of the man page: code is bold, a link is its name, and what begins with @ is a request.
+# Text as lines of the man page: what stands between backquotes is bold, and what begins with @ is a request.
 roff() {
-    sed -E -e "s/\\\\/\\\\e/g; s/-/\\\\-/g; s/\^/\\\\(ha/g; s/'/\\\\(aq/g; s/~/\\\\(ti/g" -e 's/\[([^]]*)\]\([^)]*\)/\1/g' \
+    sed -E -e "s/\\\\/\\\\e/g; s/-/\\\\-/g; s/\^/\\\\(ha/g; s/'/\\\\(aq/g; s/~/\\\\(ti/g" \
         -e 's/`([^`]*)`/\\fB\1\\fR/g' -e 's/^\./\\\&./' -e 's/^@/./'
 }
 
