@@ -2,6 +2,7 @@
 //
 // docs/SEGMENTS.md is the format, which the examples in C, Rust and Python have too. KEYFILE holds a wrapping key of 32 random bytes.
 // Opening writes a segment as soon as it is authentic. If a later one is refused, the status is 1: throw OUT away.
+import assert from "node:assert/strict";
 import { readFile } from "node:fs/promises";
 import { pipeline } from "node:stream/promises";
 import { fileURLToPath } from "node:url";
@@ -77,21 +78,16 @@ export async function* open(wrappingKey, label, source) {
     }
 }
 
-async function main(word, keyFile, label) {
-    const call = { seal, open }[word];
-    if (!call || label === undefined) {
-        throw new Error("usage: segments.mjs seal|open KEYFILE LABEL < IN > OUT");
-    }
-    const wrappingKey = await readFile(keyFile);
-    if (wrappingKey.length !== 32) {
-        throw new Error("KEYFILE is not 32 bytes long");
-    }
-    await pipeline(process.stdin, (source) => call(wrappingKey, Buffer.from(label), source), process.stdout);
-}
-
 if (process.argv[1] === fileURLToPath(import.meta.url)) {
-    await main(...process.argv.slice(2)).catch((error) => {
+    const [word, keyFile, label] = process.argv.slice(2);
+    try {
+        const call = label === undefined ? undefined : { seal, open }[word];
+        assert(call, "usage: segments.mjs seal|open KEYFILE LABEL < IN > OUT");
+        const wrappingKey = await readFile(keyFile);
+        assert(wrappingKey.length === 32, "KEYFILE is not 32 bytes long");
+        await pipeline(process.stdin, (source) => call(wrappingKey, Buffer.from(label), source), process.stdout);
+    } catch (error) {
         console.error(`segments.mjs: ${error.message}`);
         process.exitCode = 1;
-    });
+    }
 }
