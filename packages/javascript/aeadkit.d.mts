@@ -16,8 +16,9 @@
  * same.
  *
  * **Bytes.** Arguments are Uint8Arrays, a Buffer too, and results are new Uint8Arrays. A call takes a whole array: for a part of it
- * pass a `subarray`. The arguments and the result of one call have to fit in 4 GiB together, or it throws a `RangeError`; in pieces
- * a text may be as long as its suite allows. The memory of the module grows for a long text and does not become smaller again.
+ * pass a `subarray`. The bytes of one call have to fit in 4 GiB together, where a text and its ciphertext count once, or it throws a
+ * `RangeError`; in pieces a text may be as long as its suite allows. The memory of the module grows for a long text and does not
+ * become smaller again.
  *
  * **Faults.** A call that throws has changed none of its arguments, and gives no part of a text. Each call names the faults that it
  * can have, in the order in which they are looked for. Besides, each throws a `TypeError` for an argument of the wrong kind.
@@ -26,7 +27,10 @@
  * stack. Nothing is claimed about timing, and for AES the module looks up tables at addresses that depend on secrets.
  */
 
-/** The suites. A tag is 16 bytes long under each. A suite may also be given by its name, as in `"aes-256-gcm"`. */
+/**
+ * The suites: ChaCha20-Poly1305 with a counter as nonce that is stored before it is used; AES-256-GCM-SIV where a nonce may come twice or
+ * is drawn at random; AES-GCM where a standard demands it. A tag is 16 bytes long. A suite may be given by its name, as `"aes-256-gcm"`.
+ */
 export const Suite: {
     /** A key of 32 bytes; texts of up to 2^38 - 64 bytes. */
     readonly ChaCha20Poly1305: "chacha20-poly1305";
@@ -124,7 +128,7 @@ export class Aeadkit {
     unwrapPadded(key: Uint8Array, wrapped: Uint8Array): Uint8Array;
 }
 
-/** A suite and a key, by `Aeadkit.key`. It holds the key until `wipe`, and cannot be cloned. */
+/** A suite and a key, by `Aeadkit.key`. It holds the key until `wipe`, and cannot be cloned: a worker gets the bytes of the key. */
 export class Key {
     private constructor();
 

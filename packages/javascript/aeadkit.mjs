@@ -25,8 +25,8 @@ const fault = (name, message) => ({
     [name]: class extends Refused {
         static { this.prototype.name = name; }
 
-        constructor() {
-            super(message);
+        constructor(said = message) {
+            super(said);
         }
     },
 })[name];
@@ -42,13 +42,19 @@ export const TagLength = fault("TagLength", "the tag is not 16 bytes long");
 export const WrapLength = fault("WrapLength", "the length is not a multiple of 8, or too short");
 export const WrapIntegrity = fault("WrapIntegrity", "not a valid wrapping under this key");
 export const SourceChanged = fault("SourceChanged", "the second pass differs from the first");
-export const UnknownSuite = fault("UnknownSuite", "there is no such suite, or the call does not take it");
+export const UnknownSuite = fault("UnknownSuite", "there is no suite of this name");
 export const NotBegun = fault("NotBegun", "not begun, finished or wiped");
 
 // The faults by the statuses of the library. TagLength has none, since the library takes a pointer to 16 bytes.
 const FAULTS = {
     1: KeyLength, 2: NonceLength, 3: TextTooLong, 4: AadTooLong, 5: TooShort, 6: TagMismatch, 7: WrapLength, 8: WrapIntegrity,
     13: SourceChanged, 14: UnknownSuite, 15: NotBegun,
+};
+
+// What UnknownSuite says where there is such a suite.
+const OTHER_CALL = {
+    aeadkit_sealer_init_with: "AES-GCM-SIV reads a text twice: use sivSealer",
+    aeadkit_siv_init_with: "only AES-GCM-SIV reads a text twice: use sealer",
 };
 
 // Whether data is a Uint8Array, also one of another realm, as in a frame or under jest.
@@ -73,10 +79,11 @@ function aadOf(options) {
     if (options === undefined) {
         return new Uint8Array(0);
     }
-    if (!isBytes(options?.aad)) {
+    const aad = options?.aad;
+    if (!isBytes(aad)) {
         throw new TypeError("associated data is given by name, as { aad: bytes }");
     }
-    return options.aad;
+    return aad;
 }
 
 // The next multiple of 16.
@@ -131,7 +138,7 @@ class Library {
             end = aligned(end + length);
         }
         if (end > MEMORY_LIMIT) {
-            throw new RangeError("the arguments and the result of a call have to fit in 4 GiB");
+            throw new RangeError("the bytes of a call have to fit in 4 GiB together");
         }
         if (end > memory.buffer.byteLength) {
             memory.grow(Math.ceil((end - memory.buffer.byteLength) / PAGE_BYTES));
@@ -161,7 +168,8 @@ class Library {
     call(name, ...words) {
         const status = this.invoke(name, ...words);
         if (status !== 0) {
-            throw status in FAULTS ? new FAULTS[status]() : new Error(`the library returned the unknown status ${status}`);
+            const said = FAULTS[status] === UnknownSuite ? OTHER_CALL[name] : undefined;
+            throw status in FAULTS ? new FAULTS[status](said) : new Error(`the library returned the unknown status ${status}`);
         }
     }
 
@@ -280,6 +288,9 @@ export class Key {
     #suite;
 
     constructor(library, suite, key) {
+        if (!(library instanceof Library)) {
+            throw new TypeError("a Key comes from a loaded library: (await load()).key(suite, bytes)");
+        }
         // The library numbers the suites from 1, and refuses 0.
         const number = Object.values(Suite).indexOf(suite) + 1;
         this.#library = library;
@@ -291,26 +302,32 @@ export class Key {
         return this.#suite;
     }
 
+    // Text and ciphertext have one place in the module's memory.
     seal(nonce, text, options) {
-        const words = [this.#struct.constant, input(bytes(nonce)), input(bytes(text)), input(aadOf(options))];
-        return this.#library.made(text.length + TAG_BYTES, "aeadkit_seal_with", ...words);
+        const sealed = new Uint8Array(bytes(text).length + TAG_BYTES);
+        const [body, tag] = [inPlace(text, sealed.subarray(0, -TAG_BYTES)), fixedOutput(sealed.subarray(-TAG_BYTES))];
+        this.#whole("aeadkit_seal_in_place_with", nonce, body, options, tag);
+        return sealed;
     }
 
     open(nonce, sealed, options) {
-        const words = [this.#struct.constant, input(bytes(nonce)), input(bytes(sealed)), input(aadOf(options))];
-        return this.#library.made(sealed.length - TAG_BYTES, "aeadkit_open_with", ...words);
+        const text = new Uint8Array(Math.max(0, bytes(sealed).length - TAG_BYTES));
+        if (sealed.length < TAG_BYTES) { // which only the call with an output can be told
+            this.#whole("aeadkit_open_with", nonce, input(sealed), options, output(text));
+        }
+        const [body, tag] = [inPlace(sealed.subarray(0, -TAG_BYTES), text), fixedInput(sealed.subarray(-TAG_BYTES))];
+        this.#whole("aeadkit_open_in_place_with", nonce, body, options, tag);
+        return text;
     }
 
     sealInPlace(nonce, text, options) {
         const tag = new Uint8Array(TAG_BYTES);
-        const words = [input(bytes(nonce)), inPlace(bytes(text)), input(aadOf(options)), fixedOutput(tag)];
-        this.#library.call("aeadkit_seal_in_place_with", this.#struct.constant, ...words);
+        this.#whole("aeadkit_seal_in_place_with", nonce, inPlace(bytes(text)), options, fixedOutput(tag));
         return tag;
     }
 
     openInPlace(nonce, ciphertext, tag, options) {
-        const words = [input(bytes(nonce)), inPlace(bytes(ciphertext)), input(aadOf(options)), fixedInput(tagBytes(tag))];
-        this.#library.call("aeadkit_open_in_place_with", this.#struct.constant, ...words);
+        this.#whole("aeadkit_open_in_place_with", nonce, inPlace(bytes(ciphertext)), options, fixedInput(tagBytes(tag)));
     }
 
     sealer(nonce, options) {
@@ -327,6 +344,10 @@ export class Key {
 
     wipe() {
         this.#struct.wipe();
+    }
+
+    #whole(name, nonce, body, options, last) {
+        this.#library.call(name, this.#struct.constant, input(bytes(nonce)), body, input(aadOf(options)), last);
     }
 
     // The struct of a state in pieces.

@@ -30,11 +30,19 @@ for document in COMMAND VECTOR-FILES; do
     done
 done
 if has groff; then
-    groff -man -Tutf8 -ww "$share/man/man1/aeadkit.1" 2>&1 > "$room/page" | tee "$room/log"
-    [ ! -s "$room/log" ] && grep -q -- '--suite <SUITE>' "$room/page"
+    groff -man -Tutf8 -P-cbou -rLL=80n -ww "$share/man/man1/aeadkit.1" 2>&1 > "$room/page" | tee "$room/log"
+    [ ! -s "$room/log" ] && grep -q -- '--suite <SUITE>' "$room/page" || fail "the man page"
+    [ "$(wc -L < "$room/page")" -le 80 ] || fail "the man page has lines of more than 80 columns"
+    for heading in NAME SYNOPSIS DESCRIPTION OPTIONS FILES "EXIT STATUS" EXAMPLES; do
+        grep -qx "$heading" "$room/page" || fail "the man page has no section $heading"
+    done
 fi
 records=$(sed -n '1s/.*`\(records [0-9]*\)`.*/\1/p' "$docs/published.vectors")
 [ "$(aeadkit check "$docs/published.vectors")" = "$records" ] || fail "published.vectors has not $records that agree"
+for command in aeadkit $(aeadkit help | awk '/^$/ { on = 0 } on && $1 != "help" { print $1 } /^Commands:/ { on = 1 }'); do
+    aeadkit help ${command#aeadkit} | grep -v "^Usage:" > "$room/help"
+    [ "$(wc -L < "$room/help")" -le 79 ] || fail "the help of $command has lines of more than 79 columns"
+done
 
 # ---- Completions.
 cd "$room"
@@ -42,10 +50,11 @@ touch "my file"
 ! has bash || bash "$here/completion.bash" "$share/bash-completion/completions/aeadkit"
 if has fish; then
     completed=$(HOME=$room fish -c "source $share/fish/vendor_completions.d/aeadkit.fish
-        for line in 'aeadkit sea' 'aeadkit help un' 'aeadkit seal --suite=ch' 'aeadkit seal-file --in my' 'aeadkit wrap --p'
+        for line in 'aeadkit sea' 'aeadkit help un' 'aeadkit seal --suite=ch' 'aeadkit seal-file --in my' 'aeadkit wrap --p' \
+                'aeadkit unwrap --key=00 --pad --'
             complete -C \$line | string split -f 1 \t
         end" | tr '\n' ' ')
-    [ "$completed" = "seal seal-file unwrap --suite=chacha20-poly1305 my file --pad " ] || fail "fish completes to $completed"
+    [ "$completed" = "seal seal-file unwrap --suite=chacha20-poly1305 my file --pad --help --sealed " ] || fail "fish completes to $completed"
 fi
 ! has zsh || zsh -n "$share/zsh/site-functions/_aeadkit"
 

@@ -1,4 +1,4 @@
-# Completes command lines with the function that a file of pages.sh defines, as readline calls it: completion-check.bash FILE
+# Completes command lines with the function that a file of pages.sh defines, as readline calls it: completion.bash FILE
 # Readline hands over the words as they were typed. It cuts them at =, unless COMP_WORDBREAKS was told not to.
 set -eu
 . "$1"
@@ -32,6 +32,10 @@ named() {
 completed '[seal-file][seal]' aeadkit sea
 completed '[unwrap]' aeadkit help u
 completed '[--nonce]' aeadkit seal --n
+completed '[--aad][--help][--key][--nonce][--out][--suite]' aeadkit seal-file --in letter.txt ''
+completed '[--aad][--help][--in][--nonce][--out]' aeadkit open-file --suite = aes-128-gcm --key=00 ''
+completed '[--help]' aeadkit unwrap --sealed 00 --key 00 --pad --
+completed '[--key]' aeadkit wrap --key
 completed '[chacha20-poly1305]' aeadkit seal --suite ch
 completed '[chacha20-poly1305]' aeadkit seal --suite = ch
 completed '[aes-128-gcm-siv]' aeadkit seal-file --key 00 --suite = aes-128-gcm-

@@ -1,7 +1,7 @@
 //! The subcommands, for clap.
 use crate::help::{
-    ABOUT_HEX, CHECK_MORE, KEY_IS_SEEN, OPEN_FILE_MORE, OPEN_MORE, SEAL_FILE_MORE, SEAL_MORE,
-    SUITES, UNWRAP_MORE, WRAP_KEY, WRAP_MORE,
+    ABOUT_HEX, CHECK_MORE, KEY_LENGTH, OPEN_FILE_MORE, OPEN_MORE, OUT_FILE, SEAL_FILE_MORE,
+    SEAL_MORE, SUITES, UNWRAP_MORE, WRAP_KEY, WRAP_MORE,
 };
 use crate::version::VERSION;
 use clap::{Arg, ArgAction, Command};
@@ -71,7 +71,7 @@ const SUITE_ARG: ArgSpec = ArgSpec {
 
 const KEY_ARG: ArgSpec = ArgSpec {
     name: KEY,
-    help: "The key, as long as the suite says",
+    help: KEY_LENGTH,
     ..HEX
 };
 
@@ -111,7 +111,7 @@ const IN_ARG: ArgSpec = ArgSpec {
 const OUT_ARG: ArgSpec = ArgSpec {
     name: OUT,
     value: "OUT",
-    help: "The file that is written",
+    help: OUT_FILE,
     ..HEX
 };
 
@@ -194,7 +194,6 @@ struct CommandSpec {
     name: &'static str,
     about: &'static str,
     more: &'static str,
-    takes_key: bool,
     args: &'static [Argument],
 }
 
@@ -203,49 +202,42 @@ const SUBCOMMANDS: [CommandSpec; 7] = [
         name: SEAL,
         about: "Seals a text",
         more: SEAL_MORE,
-        takes_key: true,
         args: &[Suite, Key, Nonce, Aad, Text],
     },
     CommandSpec {
         name: OPEN,
         about: "Opens sealed bytes",
         more: OPEN_MORE,
-        takes_key: true,
         args: &[Suite, Key, Nonce, Aad, Sealed],
     },
     CommandSpec {
         name: WRAP,
         about: "Wraps a text by AES Key Wrap",
         more: WRAP_MORE,
-        takes_key: true,
         args: &[WrapKey, WrapText, Pad],
     },
     CommandSpec {
         name: UNWRAP,
         about: "Unwraps the bytes of a wrapping",
         more: UNWRAP_MORE,
-        takes_key: true,
         args: &[WrapKey, Wrapping, Pad],
     },
     CommandSpec {
         name: SEAL_FILE,
         about: "Seals a file into another",
         more: SEAL_FILE_MORE,
-        takes_key: true,
         args: &[Suite, Key, Nonce, Aad, In, Out],
     },
     CommandSpec {
         name: OPEN_FILE,
         about: "Opens a sealed file into another",
         more: OPEN_FILE_MORE,
-        takes_key: true,
         args: &[Suite, Key, Nonce, Aad, In, Out],
     },
     CommandSpec {
         name: CHECK,
         about: "Checks each record of a vector file against its standard",
         more: CHECK_MORE,
-        takes_key: false,
         args: &[File],
     },
 ];
@@ -269,9 +261,6 @@ fn subcommand<'a>(alloc: Global, spec: &CommandSpec) -> Result<Command<'a>, Allo
     let mut command = Command::new(alloc, spec.name)
         .about(spec.about)
         .after_help(spec.more);
-    if spec.takes_key {
-        command = command.before_help(KEY_IS_SEEN);
-    }
     for arg in spec.args {
         command = command.arg(arg_of(alloc, spec_of(*arg)))?;
     }
@@ -282,7 +271,6 @@ fn subcommand<'a>(alloc: Global, spec: &CommandSpec) -> Result<Command<'a>, Allo
 pub(crate) fn command<'a>(alloc: Global) -> Result<Command<'a>, AllocError> {
     let mut program = Command::new(alloc, "aeadkit")
         .about("Authenticated encryption and key wrapping by published standards")
-        .before_help(KEY_IS_SEEN)
         .after_help(ABOUT_HEX)
         .version(VERSION)
         .no_binary_name(true)

@@ -2,7 +2,7 @@
 import assert from "node:assert/strict";
 import { test } from "node:test";
 import {
-    KeyLength, NonceLength, NotBegun, Refused, SourceChanged, Suite, TagLength, TagMismatch, TooShort, UnknownSuite, WrapIntegrity,
+    Key, KeyLength, NonceLength, NotBegun, Refused, SourceChanged, Suite, TagLength, TagMismatch, TooShort, UnknownSuite, WrapIntegrity,
     WrapLength,
 } from "../aeadkit.mjs";
 import { aeadkit, changed, joined, pieces } from "./library.mjs";
@@ -17,6 +17,13 @@ const [ciphertext, tag] = [sealed.slice(0, -16), sealed.slice(-16)];
 test("a fault has a class, a name and a message", () => {
     assert.throws(() => key.seal(bytes(11), text), (error) => error instanceof Refused && error instanceof Error
         && error.name === "NonceLength" && `${error}` === "NonceLength: the nonce is not 12 bytes long");
+});
+
+test("a fault names the call to take", () => {
+    assert.throws(() => siv.sealer(nonce), { name: "UnknownSuite", message: /use sivSealer$/ });
+    assert.throws(() => key.sivSealer(nonce), { name: "UnknownSuite", message: /use sealer$/ });
+    assert.throws(() => aeadkit.key("aes-512-gcm", bytes(32)), { name: "UnknownSuite", message: "there is no suite of this name" });
+    assert.throws(() => new Key(Suite.Aes128Gcm, bytes(16)), { name: "TypeError", message: /loaded library/ });
 });
 
 test("the library says its version", () => assert.match(aeadkit.version, /^3\.\d+\.\d+$/));
@@ -34,6 +41,7 @@ test("seal and open", () => {
     assert.throws(() => key.seal(bytes(11), text), NonceLength);
     assert.throws(() => key.open(bytes(13), sealed, { aad }), NonceLength);
     assert.throws(() => key.open(nonce, bytes(15)), TooShort);
+    assert.throws(() => key.open(bytes(13), bytes(15)), NonceLength);
     assert.throws(() => key.open(nonce, bytes(0)), TooShort);
     assert.throws(() => key.open(nonce, sealed), TagMismatch);
     assert.deepEqual(key.seal(nonce, bytes(0)), key.seal(nonce, bytes(0), { aad: bytes(0) }));
@@ -71,6 +79,9 @@ test("arguments of the wrong kind", () => {
         assert.throws(() => key.seal(nonce, text, options), TypeError);
         assert.throws(() => key.sealer(nonce, options), TypeError);
     }
+    let reads = 0;
+    const once = { get aad() { return reads++ === 0 ? aad : "aad"; } };
+    assert.deepEqual([key.seal(nonce, text, once), reads], [sealed, 1]);
     assert.deepEqual(key.seal(Buffer.from(nonce), Buffer.from(text), { aad: Buffer.from(aad) }), sealed);
 });
 

@@ -70,8 +70,9 @@ test("a length past 32 bits is refused, and changes nothing", () => {
     const past = new Uint8Array(2 ** 32);
     const isRefused = { name: "RangeError", message: /fit in 4 GiB/ };
     assert.throws(() => key.sealInPlace(nonce, past), isRefused);
-    assert.throws(() => key.seal(nonce, new Uint8Array(2 ** 31)), isRefused);
+    assert.throws(() => key.seal(nonce, past.subarray(16)), isRefused);
     assert.throws(() => key.seal(nonce, text, { aad: past }), isRefused);
+    assert.throws(() => key.open(nonce, past), isRefused);
     const sealer = key.sealer(nonce);
     assert.throws(() => sealer.update(past), isRefused);
     assert.deepEqual(joined([sealer.update(text), sealer.finish()]), sealed);

@@ -49,7 +49,8 @@ impl core::error::Error for Error {}
 
 /// Returns the result that a status of the library stands for.
 ///
-/// Two statuses cannot come: 2, for a nonce that is not 12 bytes long, and 15, for a struct that was not begun.
+/// Three statuses cannot come: 2, for a nonce that is not 12 bytes long; 15, for a struct that was not begun; and 17, for an
+/// output that overlaps another argument, which references exclude.
 pub(crate) fn result(status: u32) -> Result<(), Error> {
     match status {
         0 => Ok(()),

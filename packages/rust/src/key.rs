@@ -8,8 +8,8 @@ use core::fmt;
 
 /// A suite and a key, whose key schedule is computed once. Threads may share it.
 ///
-/// It is wiped when it is dropped. If it is moved, its bytes stay behind in the old place; in a `Box` or an `Arc` it stays in
-/// one place.
+/// It is wiped when it is dropped. A move copies it and leaves the old bytes behind, on the stack too, and [`Key::new`] returns
+/// it by a move. Put it into a `Box` or an `Arc` at once, `Box::new(Key::new(suite, &bytes)?)`: it then stays in one place.
 ///
 /// # Nonces
 ///

@@ -7,7 +7,8 @@
 //!
 //! # fn main() -> Result<(), Error> {
 //! let key = Key::new(Suite::ChaCha20Poly1305, &[7; 32])?; // for a trial: a real key is random
-//! let nonce = [0; 12]; // of the first message under this key; count up for each further one
+//! let mut nonce = [0; 12];
+//! nonce[4..].copy_from_slice(&1u64.to_be_bytes()); // the number of the message, never twice under one key
 //! let sealed = key.seal_to_vec(&nonce, b"attack at dawn", Aad(b"to: general"))?;
 //! assert_eq!(sealed.len(), 14 + 16); // the ciphertext, then the tag
 //! assert_eq!(key.open_to_vec(&nonce, &sealed, Aad(b"to: admiral")), Err(Error::TagMismatch));

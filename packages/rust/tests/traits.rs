@@ -1,6 +1,7 @@
-//! The code of README.md that writes the traits of the crate `aead` 0.5 over `Key`, compiled against a stub of that crate.
+//! `examples/aead/traits.rs`, which has the traits of the crate `aead` 0.5 over `Key`, over a stub of that crate.
 
-/// What the code uses of `aead` 0.5. There the lengths are types of `typenum`, and the arrays are those of `generic_array`.
+/// What the code uses of `aead` 0.5. There a length is a type of `typenum`, of which an array of `generic_array` is made; here it
+/// is the array.
 #[rustfmt::skip]
 mod aead {
     pub struct Array<const N: usize>([u8; N]);
@@ -16,42 +17,32 @@ mod aead {
         fn deref(&self) -> &[u8] { &self.0 }
     }
 
-    pub struct Length<const N: usize>;
-    pub trait ArrayLength { type Array; }
-    impl<const N: usize> ArrayLength for Length<N> { type Array = Array<N>; }
     pub mod consts {
-        pub type U0 = super::Length<0>;
-        pub type U12 = super::Length<12>;
-        pub type U16 = super::Length<16>;
-        pub type U32 = super::Length<32>;
+        pub type U0 = super::Array<0>;
+        pub type U12 = super::Array<12>;
+        pub type U16 = super::Array<16>;
+        pub type U32 = super::Array<32>;
     }
 
     #[derive(Debug, PartialEq)]
     pub struct Error;
     pub type Result<T> = core::result::Result<T, Error>;
-    pub type Key<A> = <<A as KeySizeUser>::KeySize as ArrayLength>::Array;
-    pub type Nonce<A> = <<A as AeadCore>::NonceSize as ArrayLength>::Array;
-    pub type Tag<A> = <<A as AeadCore>::TagSize as ArrayLength>::Array;
+    pub type Key<A> = <A as KeySizeUser>::KeySize;
+    pub type Nonce<A> = <A as AeadCore>::NonceSize;
+    pub type Tag<A> = <A as AeadCore>::TagSize;
 
-    pub trait KeySizeUser { type KeySize: ArrayLength; }
+    pub trait KeySizeUser { type KeySize; }
     pub trait KeyInit: KeySizeUser + Sized { fn new(key: &Key<Self>) -> Self; }
-    pub trait AeadCore { type NonceSize: ArrayLength; type TagSize: ArrayLength; type CiphertextOverhead: ArrayLength; }
+    pub trait AeadCore { type NonceSize; type TagSize; type CiphertextOverhead; }
     pub trait AeadInPlace: AeadCore {
-        fn encrypt_in_place_detached(
-            &self, nonce: &Nonce<Self>, associated_data: &[u8], buffer: &mut [u8],
-        ) -> Result<Tag<Self>>;
+        fn encrypt_in_place_detached(&self, nonce: &Nonce<Self>, aad: &[u8], text: &mut [u8]) -> Result<Tag<Self>>;
         fn decrypt_in_place_detached(
-            &self, nonce: &Nonce<Self>, associated_data: &[u8], buffer: &mut [u8], tag: &Tag<Self>,
+            &self, nonce: &Nonce<Self>, aad: &[u8], ciphertext: &mut [u8], tag: &Tag<Self>,
         ) -> Result<()>;
     }
 }
 
-include!("traits/over_key.rs");
-
-#[test]
-fn the_readme_has_this_code() {
-    assert!(include_str!("../README.md").contains(include_str!("traits/over_key.rs")));
-}
+include!("../examples/aead/traits.rs");
 
 #[test]
 fn there_and_back() {

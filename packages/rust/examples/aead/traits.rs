@@ -1,3 +1,4 @@
+// The traits of the crate aead 0.5 over ChaCha20-Poly1305, to be copied; for another suite change the names and the length of the key.
 use aead::consts::{U0, U12, U16, U32};
 use aead::{AeadCore, AeadInPlace, Error, KeyInit, KeySizeUser, Nonce, Tag};
 use aeadkit::{Aad, Key, Suite};
