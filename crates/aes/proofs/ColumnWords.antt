@@ -1,11 +1,10 @@
 -- Columns as words: their sums, rotations and bytes.
-use Rattle.std.proofs.Common.{◌≡◌, ℕ, ◌+◌, ◌*◌, ◌/◌, ◌%◌, ◌^◌, ◌<◌, ◌≤◌, true, ◌==◌, ◌&&◌, ltb, ltb-true}
+use Rattle.std.proofs.Common.{◌≡◌, ℕ, ◌+◌, ◌*◌, ◌/◌, ◌%◌, ◌^◌, ◌<◌, true, ◌==◌}
 use Rattle.std.proofs.Common.{List, [], ◌∷◌, ◌++◌, get_or, length, zero, suc, refl, sym, ap, ap₂, ◌∙◌}
 use Rattle.std.proofs.Common.{arith, bit_or, bit_xor, w32}
 use Rattle.std.specs.Int.{bytes_low_first, rotate_left, from_le_bytes}
 use Rattle.std.proofs.lemmas.Nat.{xor_shr, xor_mod, or_shifted}
-use Rattle.std.proofs.lemmas.Bool.{and_parts, eqb-true}
-use Rattle.std.proofs.lemmas.List.{get_or-map}
+use Rattle.std.proofs.lemmas.Bool.{eqb-true}
 use Rattle.aes.specs.Field.{times, sbox}
 use Rattle.aes.specs.Schedule.{xor_word}
 use Rattle.aes.specs.Cipher.{sub_bytes, shift_rows, mix_column, mix_columns, add_round_key}
