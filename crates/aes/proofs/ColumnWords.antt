@@ -1,17 +1,16 @@
 -- Columns as words: their sums, rotations and bytes.
-use Rattle.std.proofs.Common.{◌≡◌, ℕ, ◌+◌, ◌*◌, ◌/◌, ◌%◌, ◌^◌, ◌<◌, ◌≤◌, true, ◌==◌, ◌&&◌, ltb, ltb-true}
+use Rattle.std.proofs.Common.{◌≡◌, ℕ, ◌+◌, ◌*◌, ◌/◌, ◌%◌, ◌^◌, ◌<◌, true, ◌==◌}
 use Rattle.std.proofs.Common.{List, [], ◌∷◌, ◌++◌, get_or, length, zero, suc, refl, sym, ap, ap₂, ◌∙◌}
 use Rattle.std.proofs.Common.{arith, bit_or, bit_xor, w32}
 use Rattle.std.specs.Int.{bytes_low_first, rotate_left, from_le_bytes}
 use Rattle.std.proofs.lemmas.Nat.{xor_shr, xor_mod, or_shifted}
-use Rattle.std.proofs.lemmas.Bool.{and_parts, eqb-true}
-use Rattle.std.proofs.lemmas.List.{get_or-map}
+use Rattle.std.proofs.lemmas.Bool.{eqb-true}
 use Rattle.aes.specs.Field.{times, sbox}
 use Rattle.aes.specs.Schedule.{xor_word}
 use Rattle.aes.specs.Cipher.{sub_bytes, shift_rows, mix_column, mix_columns, add_round_key}
 use Rattle.aes.specs.Code.Columns.{column_of, columns_of, state_of}
 use Rattle.aes.proofs.Tables.{sbox_table}
-use Rattle.aes.specs.declared.round_tables.TheConstants.{TABLE, TABLE_ROW1, TABLE_ROW2, TABLE_ROW3}
+use Rattle.aes.specs.declared.round_table.TheConstants.{TABLE}
 use Rattle.aes.proofs.Tested.{all_below, all_below_at}
 use Rattle.aes.proofs.Multiples.{single_is, double, double_is, triple, triple_by}
 use Rattle.aes.proofs.Tables.{sbox_at}
@@ -28,7 +27,7 @@ unfolding column_of xor_word
 column_xor x y = four (xor_mod x y 8) (xor_byte x y 8) (xor_byte x y 16) (xor_byte x y 24)
 
 -- rotating a word left by 8 bits moves its column down by one row, around the end
-pub moved_one : (x : ℕ) → x < 2 ^ 32
+moved_one : (x : ℕ) → x < 2 ^ 32
     → column_of (rotate_left w32 x 8)
     ≡ get_or (column_of x) 3 0 ∷ get_or (column_of x) 0 0 ∷ get_or (column_of x) 1 0
     ∷ get_or (column_of x) 2 0 ∷ []
@@ -41,7 +40,7 @@ moved_one x h =
     four (omega arith) (omega arith) (omega arith) (omega arith)
 
 -- rotating a word left by 16 bits moves its column down by two rows
-pub moved_two : (x : ℕ) → x < 2 ^ 32
+moved_two : (x : ℕ) → x < 2 ^ 32
     → column_of (rotate_left w32 x 16)
     ≡ get_or (column_of x) 2 0 ∷ get_or (column_of x) 3 0 ∷ get_or (column_of x) 0 0
     ∷ get_or (column_of x) 1 0 ∷ []
@@ -54,7 +53,7 @@ moved_two x h =
     four (omega arith) (omega arith) (omega arith) (omega arith)
 
 -- rotating a word left by 24 bits moves its column down by three rows
-pub moved_three : (x : ℕ) → x < 2 ^ 32
+moved_three : (x : ℕ) → x < 2 ^ 32
     → column_of (rotate_left w32 x 24)
     ≡ get_or (column_of x) 1 0 ∷ get_or (column_of x) 2 0 ∷ get_or (column_of x) 3 0
     ∷ get_or (column_of x) 0 0 ∷ []
@@ -114,93 +113,35 @@ table_at x h =
     ∙ ap mixed_entry (sbox_at x h)
     ∙ ap (from_le_bytes w32) (four (sym (double_is s small)) refl refl (sym (triple_by s small))))
 
--- ---- tables whose columns are those of another table, moved down
--- the entries of one table are those of another, rotated left by n bits, and those are below 2^32
-abbrev IsMoved : List ℕ → List ℕ → ℕ → Type 0
-IsMoved moved table n = all_below
-    (λ x. (get_or moved x 0 == rotate_left w32 (get_or table x 0) n) && ltb (get_or table x 0) (2 ^ 32)) 256
-    ≡ true
+-- ---- a column of the next state is the XOR of four entries, each moved down by the row of its byte, and the key's word
+-- a word has the column 2s, s, s, 3s
+abbrev IsEntry : ℕ → ℕ → Type 0
+IsEntry s w = (w < 2 ^ 32) × (column_of w ≡ times 2 s ∷ s ∷ s ∷ times 3 s ∷ [])
 
--- an entry of such a table is the entry of the other one, rotated
-moved_at : (moved table : List ℕ) (n x : ℕ) → IsMoved moved table n → x < 256
-    → (get_or moved x 0 ≡ rotate_left w32 (get_or table x 0) n) × (get_or table x 0 < 2 ^ 32)
-moved_at moved table n x h l =
-    let t : ℕ = get_or table x 0 in
-    let both = and_parts (get_or moved x 0 == rotate_left w32 t n) (ltb t (2 ^ 32))
-    (all_below_at (λ x. (get_or moved x 0 == rotate_left w32 (get_or table x 0) n) && ltb (get_or table x 0)
-    (2 ^ 32)) 256 x h l) in
-    (eqb-true (get_or moved x 0) (rotate_left w32 t n) both.0, ltb-true t (2 ^ 32) both.1)
-
--- an entry that is rotated by 8 bits has the column moved down by one row
-moved_once : (moved table : List ℕ) (x a b c d : ℕ) → IsMoved moved table 8 → x < 256
-    → column_of (get_or table x 0) ≡ a ∷ b ∷ c ∷ d ∷ [] → column_of (get_or moved x 0) ≡ d ∷ a ∷ b ∷ c ∷ []
-moved_once moved table x a b c d h l e =
-    let at = moved_at moved table 8 x h l in
-    ap column_of at.0 ∙ moved_one (get_or table x 0) at.1
-    ∙ ap (λ l. get_or l 3 0 ∷ get_or l 0 0 ∷ get_or l 1 0 ∷ get_or l 2 0 ∷ []) e
-
--- an entry that is rotated by 16 bits has the column moved down by two rows
-moved_twice : (moved table : List ℕ) (x a b c d : ℕ) → IsMoved moved table 16 → x < 256
-    → column_of (get_or table x 0) ≡ a ∷ b ∷ c ∷ d ∷ [] → column_of (get_or moved x 0) ≡ c ∷ d ∷ a ∷ b ∷ []
-moved_twice moved table x a b c d h l e =
-    let at = moved_at moved table 16 x h l in
-    ap column_of at.0 ∙ moved_two (get_or table x 0) at.1
-    ∙ ap (λ l. get_or l 2 0 ∷ get_or l 3 0 ∷ get_or l 0 0 ∷ get_or l 1 0 ∷ []) e
-
--- an entry that is rotated by 24 bits has the column moved down by three rows
-moved_thrice : (moved table : List ℕ) (x a b c d : ℕ) → IsMoved moved table 24 → x < 256
-    → column_of (get_or table x 0) ≡ a ∷ b ∷ c ∷ d ∷ [] → column_of (get_or moved x 0) ≡ b ∷ c ∷ d ∷ a ∷ []
-moved_thrice moved table x a b c d h l e =
-    let at = moved_at moved table 24 x h l in
-    ap column_of at.0 ∙ moved_three (get_or table x 0) at.1
-    ∙ ap (λ l. get_or l 1 0 ∷ get_or l 2 0 ∷ get_or l 3 0 ∷ get_or l 0 0 ∷ []) e
-
--- the table of row 1 is the table moved down by one row, tested at each entry
-table_row1 : IsMoved TABLE_ROW1 TABLE 8
-table_row1 = refl
-
--- the table of row 2 is the table moved down by two rows, tested at each entry
-table_row2 : IsMoved TABLE_ROW2 TABLE 16
-table_row2 = refl
-
--- the table of row 3 is the table moved down by three rows, tested at each entry
-table_row3 : IsMoved TABLE_ROW3 TABLE 24
-table_row3 = refl
-
--- an entry of the table of row 1 has the column 3s, 2s, s, s of the S-box value s
-pub table_row1_at : (x : ℕ) → x < 256
-    → column_of (get_or TABLE_ROW1 x 0) ≡ times 3 (sbox x) ∷ times 2 (sbox x) ∷ sbox x ∷ sbox x ∷ []
-table_row1_at x h = moved_once TABLE_ROW1 TABLE x (times 2 (sbox x)) (sbox x) (sbox x) (times 3 (sbox x))
-    table_row1 h (table_at x h)
-
--- an entry of the table of row 2 has the column s, 3s, 2s, s of the S-box value s
-pub table_row2_at : (x : ℕ) → x < 256
-    → column_of (get_or TABLE_ROW2 x 0) ≡ sbox x ∷ times 3 (sbox x) ∷ times 2 (sbox x) ∷ sbox x ∷ []
-table_row2_at x h = moved_twice TABLE_ROW2 TABLE x (times 2 (sbox x)) (sbox x) (sbox x) (times 3 (sbox x))
-    table_row2 h (table_at x h)
-
--- an entry of the table of row 3 has the column s, s, 3s, 2s of the S-box value s
-pub table_row3_at : (x : ℕ) → x < 256
-    → column_of (get_or TABLE_ROW3 x 0) ≡ sbox x ∷ sbox x ∷ times 3 (sbox x) ∷ times 2 (sbox x) ∷ []
-table_row3_at x h = moved_thrice TABLE_ROW3 TABLE x (times 2 (sbox x)) (sbox x) (sbox x) (times 3 (sbox x))
-    table_row3 h (table_at x h)
-
--- ---- a column of the next state is the XOR of four table entries and the key's word
 pub mixed_is : (a b c d key s t u v : ℕ) → a < 256 → b < 256 → c < 256 → d < 256
-    → column_of s ≡ times 2 a ∷ a ∷ a ∷ times 3 a ∷ [] → column_of t ≡ times 3 b ∷ times 2 b ∷ b ∷ b ∷ []
-    → column_of u ≡ c ∷ times 3 c ∷ times 2 c ∷ c ∷ [] → column_of v ≡ d ∷ d ∷ times 3 d ∷ times 2 d ∷ []
-    → column_of (bit_xor (bit_xor s (bit_xor t (bit_xor u v))) key)
+    → IsEntry a s → IsEntry b t → IsEntry c u → IsEntry d v
+    → column_of (bit_xor (bit_xor s (bit_xor (rotate_left w32 t 8) (bit_xor (rotate_left w32 u 16)
+    (rotate_left w32 v 24)))) key)
     ≡ xor_word (mix_column (a ∷ b ∷ c ∷ d ∷ [])) (column_of key)
 unfolding mix_column xor_word
 mixed_is a b c d key s t u v ha hb hc hd es et eu ev =
+    let t1 : ℕ = rotate_left w32 t 8 in
+    let u2 : ℕ = rotate_left w32 u 16 in
+    let v3 : ℕ = rotate_left w32 v 24 in
+    let second : column_of t1 ≡ times 3 b ∷ times 2 b ∷ b ∷ b ∷ [] =
+    moved_one t et.0 ∙ ap (λ l. get_or l 3 0 ∷ get_or l 0 0 ∷ get_or l 1 0 ∷ get_or l 2 0 ∷ []) et.1 in
+    let third : column_of u2 ≡ c ∷ times 3 c ∷ times 2 c ∷ c ∷ [] =
+    moved_two u eu.0 ∙ ap (λ l. get_or l 2 0 ∷ get_or l 3 0 ∷ get_or l 0 0 ∷ get_or l 1 0 ∷ []) eu.1 in
+    let fourth : column_of v3 ≡ d ∷ d ∷ times 3 d ∷ times 2 d ∷ [] =
+    moved_three v ev.0 ∙ ap (λ l. get_or l 1 0 ∷ get_or l 2 0 ∷ get_or l 3 0 ∷ get_or l 0 0 ∷ []) ev.1 in
     let a1 : a ≡ times 1 a = sym (single_is a ha) in
     let b1 : b ≡ times 1 b = sym (single_is b hb) in
     let c1 : c ≡ times 1 c = sym (single_is c hc) in
     let d1 : d ≡ times 1 d = sym (single_is d hd) in
-    column_xor (bit_xor s (bit_xor t (bit_xor u v))) key
+    column_xor (bit_xor s (bit_xor t1 (bit_xor u2 v3))) key
     ∙ ap (λ l. xor_word l (column_of key)) (
-    column_xor s (bit_xor t (bit_xor u v))
-    ∙ ap₂ xor_word es (column_xor t (bit_xor u v) ∙ ap₂ xor_word et (column_xor u v ∙ ap₂ xor_word eu ev))
+    column_xor s (bit_xor t1 (bit_xor u2 v3))
+    ∙ ap₂ xor_word es.1 (column_xor t1 (bit_xor u2 v3) ∙ ap₂ xor_word second (column_xor u2 v3 ∙ ap₂ xor_word third fourth))
     ∙ four
     (dot_is 2 3 1 1 a b c d (times 2 a) (times 3 b) c d refl refl c1 d1)
     (dot_is 1 2 3 1 a b c d a (times 2 b) (times 3 c) d a1 refl refl d1)
@@ -248,19 +189,6 @@ pub added_is : (a b c d k l m n : ℕ)
     ≡ add_round_key (columns_of (k ∷ l ∷ m ∷ n ∷ [])) 0 (state_of (a ∷ b ∷ c ∷ d ∷ []))
 unfolding column_of xor_word add_round_key
 added_is a b c d k l m n = joined (column_xor a k) (column_xor b l) (column_xor c m) (column_xor d n)
-
--- the columns of the four words of round n are columns 4n to 4n + 3 of all words
-pub key_columns : (ws : List ℕ) (n c : ℕ) → 4 * n + 4 ≤ length ws → c < 4
-    → get_or (columns_of (get_or ws (4 * n) 0 ∷ get_or ws (4 * n + 1) 0 ∷ get_or ws (4 * n + 2) 0
-    ∷ get_or ws (4 * n + 3) 0 ∷ [])) c [] ≡ get_or (columns_of ws) (4 * n + c) []
-key_columns ws n zero h l =
-    let e : 4 * n + 0 ≡ 4 * n = omega arith in
-    ap (λ (i : ℕ). column_of (get_or ws i 0)) (sym e)
-    ∙ sym (get_or-map column_of ws (4 * n + 0) 0 [] (omega arith))
-key_columns ws n (suc zero) h l = sym (get_or-map column_of ws (4 * n + 1) 0 [] (omega arith))
-key_columns ws n (suc (suc zero)) h l = sym (get_or-map column_of ws (4 * n + 2) 0 [] (omega arith))
-key_columns ws n (suc (suc (suc zero))) h l = sym (get_or-map column_of ws (4 * n + 3) 0 [] (omega arith))
-key_columns ws n (suc (suc (suc (suc c)))) h l = absurd (omega arith)
 
 -- the state of four words has sixteen bytes
 pub state_long : (ws : List ℕ) → length ws ≡ 4 → length (state_of ws) ≡ 16

@@ -1,4 +1,4 @@
-//! The rounds of the cipher on columns (FIPS 197, 5.1): each byte is looked up in a table of `round_tables`. A column is a word
+//! The rounds of the cipher on columns (FIPS 197, 5.1): each byte is looked up in the table of `round_table`. A column is a word
 //! of 32 bits, row 0 its least significant byte.
 
 ghost use Rattle.std.specs.Prelude.{◌≡◌, ℕ, ◌<◌, ◌+◌, ◌*◌, ◌∷◌, [], get_or};
@@ -7,41 +7,27 @@ ghost use Rattle.aes.specs.Schedule.{xor_word};
 ghost use Rattle.aes.specs.Cipher.{mix_column, sub_bytes, shift_rows, mix_columns, add_round_key};
 ghost use Rattle.aes.specs.Code.Columns.{column_of, columns_of, state_of};
 
-use crate::round_tables::TABLES;
+use crate::round_table::TABLE;
 
 // The column that the byte x in row 0 adds to the result of SubBytes and MixColumns.
 #[inline(always)]
 fn entry(x: u8) -> u32
     ensures { column_of result ≡ times 2 (sbox x) ∷ sbox x ∷ sbox x ∷ times 3 (sbox x) ∷ [] }
 {
-    TABLES[0][x as usize]
+    TABLE[x as usize]
 }
 
-// The column that the byte x in row 1 adds to that result.
+// The S-box of a byte, which stands in row 1 of its entry.
 #[inline(always)]
-fn entry_row1(x: u8) -> u32
-    ensures { column_of result ≡ times 3 (sbox x) ∷ times 2 (sbox x) ∷ sbox x ∷ sbox x ∷ [] }
+fn substituted(x: u8) -> u8
+    ensures { result ≡ sbox x }
 {
-    TABLES[1][x as usize]
+    let [_, value, _, _] = entry(x).to_le_bytes();
+    value
 }
 
-// The column that the byte x in row 2 adds to that result.
-#[inline(always)]
-fn entry_row2(x: u8) -> u32
-    ensures { column_of result ≡ sbox x ∷ times 3 (sbox x) ∷ times 2 (sbox x) ∷ sbox x ∷ [] }
-{
-    TABLES[2][x as usize]
-}
-
-// The column that the byte x in row 3 adds to that result.
-#[inline(always)]
-fn entry_row3(x: u8) -> u32
-    ensures { column_of result ≡ sbox x ∷ sbox x ∷ times 3 (sbox x) ∷ times 2 (sbox x) ∷ [] }
-{
-    TABLES[3][x as usize]
-}
-
-// A column of the next state. Before SubBytes and ShiftRows its rows 0 to 3 were in these four words.
+// A column of the next state. Before SubBytes and ShiftRows its rows 0 to 3 were in these four words. The byte of row r adds its
+// entry moved down r rows, around the end.
 #[inline(always)]
 fn mixed_column(a: u32, b: u32, c: u32, d: u32, key: u32) -> u32
     ensures { column_of result ≡ xor_word (mix_column (
@@ -52,13 +38,16 @@ fn mixed_column(a: u32, b: u32, c: u32, d: u32, key: u32) -> u32
     let [_, row1, _, _] = b.to_le_bytes();
     let [_, _, row2, _] = c.to_le_bytes();
     let [_, _, _, row3] = d.to_le_bytes();
-    (entry(row0) ^ (entry_row1(row1) ^ (entry_row2(row2) ^ entry_row3(row3)))) ^ key
+    let second = entry(row1).rotate_left(8);
+    let third = entry(row2).rotate_left(16);
+    let fourth = entry(row3).rotate_left(24);
+    (entry(row0) ^ (second ^ (third ^ fourth))) ^ key
 }
 
 /// Any round but the last: SubBytes, ShiftRows, MixColumns and AddRoundKey with these four words (FIPS 197, 5.1). Each word is
 /// a column, row 0 its least significant byte.
 ///
-/// Not constant time: it looks up four tables of 256 words, one for each row, by the 16 bytes of the state.
+/// Not constant time, as [`AesKey::encrypt`](crate::AesKey::encrypt) says: it looks up a table by the 16 bytes of the state.
 #[inline(always)]
 pub fn round(state: [u32; 4], key: [u32; 4]) -> [u32; 4]
     ensures { state_of result
@@ -73,8 +62,7 @@ pub fn round(state: [u32; 4], key: [u32; 4]) -> [u32; 4]
     ]
 }
 
-// A column of the last state. Before SubBytes and ShiftRows its rows 0 to 3 were in these four words. Each entry of a table has
-// S(x) itself in two of its rows.
+// A column of the last state. Before SubBytes and ShiftRows its rows 0 to 3 were in these four words.
 #[inline(always)]
 fn last_column(a: u32, b: u32, c: u32, d: u32, key: u32) -> u32
     ensures { column_of result ≡ xor_word (
@@ -85,11 +73,13 @@ fn last_column(a: u32, b: u32, c: u32, d: u32, key: u32) -> u32
     let [_, row1, _, _] = b.to_le_bytes();
     let [_, _, row2, _] = c.to_le_bytes();
     let [_, _, _, row3] = d.to_le_bytes();
-    let [at0, _, _, _] = entry_row2(row0).to_le_bytes();
-    let [_, at1, _, _] = entry_row3(row1).to_le_bytes();
-    let [_, _, at2, _] = entry(row2).to_le_bytes();
-    let [_, _, _, at3] = entry_row1(row3).to_le_bytes();
-    u32::from_le_bytes([at0, at1, at2, at3]) ^ key
+    let plain = u32::from_le_bytes([
+        substituted(row0),
+        substituted(row1),
+        substituted(row2),
+        substituted(row3),
+    ]);
+    plain ^ key
 }
 
 // The last round, which has no MixColumns.
@@ -116,21 +106,6 @@ pub(crate) fn add_key(state: [u32; 4], key: [u32; 4]) -> [u32; 4]
         state[1] ^ key[1],
         state[2] ^ key[2],
         state[3] ^ key[3],
-    ]
-}
-
-// A round key: the four words of a round.
-#[inline(always)]
-pub(crate) fn round_key(words: &[u32; 60], round: usize) -> [u32; 4]
-    requires { round < 15 }
-    ensures { (c : ℕ) → c < 4 → get_or (columns_of result) c []
-        ≡ get_or (columns_of words.now) (4 * round + c) [] }
-{
-    [
-        words[4 * round],
-        words[4 * round + 1],
-        words[4 * round + 2],
-        words[4 * round + 3],
     ]
 }
 

@@ -13,8 +13,7 @@ use std::simd::u8x16;
 // It is a type of its own, so that a caller that only encrypts does not make it. No definition has an inverse cipher: the
 // contract of `decrypt` speaks of the cipher alone.
 /// A key of AES made ready to decrypt many blocks: its round keys, with InvMixColumns applied to all but the first and the last
-/// (FIPS 197, 5.3.5). No table in memory is looked up by a byte of the key or of a state; that its calls take the same time for
-/// all keys and blocks is not proved.
+/// (FIPS 197, 5.3.5).
 #[derive(Clone, Copy)]
 pub struct InverseKey {
     keys: [[u8; 16]; 15],
@@ -41,9 +40,6 @@ impl InverseKey {
     }
 
     /// Returns the block of 16 bytes that the cipher takes to `block`; it is the only one (FIPS 197, 5.3.5).
-    ///
-    /// It looks up no table in memory by a byte of the key or of the state: its tables of 16 bytes are vectors, as are the bytes
-    /// that index them. That it takes the same time for all keys and blocks is not proved.
     pub fn decrypt(&self, block: &Block) -> Block
         ensures value { (key : List ℕ) → IsInverse self.now key → IsPreimage key block.now result }
         ensures is_block { IsBlock result }

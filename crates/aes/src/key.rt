@@ -25,13 +25,8 @@ use std::simd::{u8x16, u8x32, u8x64};
 
 /// A key of AES with its round keys (FIPS 197, 5.2). Contracts see the key's bytes: 16, 24 or 32.
 ///
-/// Making a key, `encrypt_in_registers`, `encrypt_two`, `encrypt_four`, `inverse` and `decrypt` have their tables of 16 bytes in
-/// vectors: no branch and no address in memory depends on a byte of the key or of a block. That they take the same time for all
-/// keys and blocks is not proved.
-///
-/// `encrypt` is not constant time: it looks up four tables of 256 words, 4 KiB in all, by each byte of the state in each round;
-/// the first state is the block XORed with a round key. Code on the same processor may learn from the cache which entries were
-/// read, and from these the key.
+/// The tables, of 16 bytes, are vectors, as are the bytes that index them: no branch and no address in memory depends on a byte of
+/// the key or of a block. `encrypt` alone is not constant time.
 #[derive(Clone, Copy)]
 pub struct AesKey {
     // The round keys as the rounds in lanes take them, and zeros after them.
@@ -182,11 +177,11 @@ impl AesKey {
         load(&self.plain_key(n))
     }
 
-    /// Returns the block of 16 bytes that the cipher takes `block` to (FIPS 197, 5.1), by the tables of [`round`](crate::round).
+    /// Returns the block of 16 bytes that the cipher takes `block` to (FIPS 197, 5.1), by the table of [`round`](crate::round).
     ///
-    /// Not constant time: each round but the last looks up four tables of 256 words by the 16 bytes of its state, and the last
-    /// looks up the S-box in the same tables. `encrypt_in_registers` returns the same block, faster, and looks up nothing in
-    /// memory.
+    /// Not constant time: each round looks up a table of 256 words, 1 KiB, by the 16 bytes of its state; the first state is the
+    /// block XORed with a round key. Code on the same processor may learn from the cache which entries were read, and from these
+    /// the key. `encrypt_in_registers` returns the same block, faster.
     pub fn encrypt(&self, block: &Block) -> Block
         ensures value { result ≡ cipher self.now block.now }
         ensures is_block { IsBlock result }
@@ -216,8 +211,7 @@ impl AesKey {
         lanes::last(state, self.keys[count])
     }
 
-    /// Returns the block of 16 bytes that the cipher takes `block` to, as `encrypt` does (FIPS 197, 5.1). It looks up no table
-    /// in memory: its tables of 16 bytes are vectors, as are the bytes that index them.
+    /// Returns the block of 16 bytes that the cipher takes `block` to, as `encrypt` does (FIPS 197, 5.1).
     pub fn encrypt_in_registers(&self, block: &Block) -> Block
         ensures value { result ≡ cipher self.now block.now }
         ensures is_block { IsBlock result }
@@ -230,8 +224,7 @@ impl AesKey {
         )
     }
 
-    /// Returns the ciphers of two concatenated blocks, each of 16 bytes (FIPS 197, 5.1). It looks up no table in memory: its
-    /// tables of 16 bytes are vectors, as are the bytes that index them.
+    /// Returns the ciphers of two concatenated blocks, each of 16 bytes (FIPS 197, 5.1).
     pub fn encrypt_two(&self, blocks: &[u8; 32]) -> [u8; 32]
         ensures { (q : ℕ) → q < 2 → block_at result q ≡ cipher self.now (block_at blocks.now q) }
     {
@@ -239,8 +232,7 @@ impl AesKey {
         self.encrypt_lanes(u8x32::from_array(*blocks)).to_array()
     }
 
-    /// Returns the ciphers of four concatenated blocks, each of 16 bytes (FIPS 197, 5.1). It looks up no table in memory: its
-    /// tables of 16 bytes are vectors, as are the bytes that index them.
+    /// Returns the ciphers of four concatenated blocks, each of 16 bytes (FIPS 197, 5.1).
     pub fn encrypt_four(&self, blocks: &[u8; 64]) -> [u8; 64]
         ensures { (q : ℕ) → q < 4 → block_at result q ≡ cipher self.now (block_at blocks.now q) }
     {
@@ -349,8 +341,7 @@ impl AesKey {
         (first.to_array(), second.to_array())
     }
 
-    /// Returns this key made ready for `InverseKey::decrypt` (FIPS 197, 5.3.5). It looks up no table in memory by a byte of the
-    /// key. That it takes the same time for all keys is not proved.
+    /// Returns this key made ready for `InverseKey::decrypt` (FIPS 197, 5.3.5).
     pub fn inverse(&self) -> InverseKey
         ensures { IsInverse result self.now }
     {
@@ -358,8 +349,7 @@ impl AesKey {
     }
 
     /// Returns the block of 16 bytes that the cipher takes to `block`; it is the only one (FIPS 197, 5.3). To decrypt many
-    /// blocks, make the `inverse` once. It looks up no table in memory by a byte of the key or of the state. That it takes the
-    /// same time for all keys and blocks is not proved.
+    /// blocks, make the `inverse` once.
     pub fn decrypt(&self, block: &Block) -> Block
         ensures value { IsPreimage self.now block.now result }
         ensures is_block { IsBlock result }

@@ -1,8 +1,7 @@
 //! AES with keys of 128, 192 and 256 bits, both ways (FIPS 197), and its streams of counting blocks (SP 800-38D, RFC 8452).
 //!
-//! [`AesKey::encrypt_in_registers`] and [`AesKey::encrypt_four`], the streams, and the making of a key read no table in memory by
-//! a secret byte. [`AesKey::encrypt`] and [`round`] are not constant time: they say which table is looked up by which secret
-//! bytes.
+//! No table in memory is looked up by a secret byte, except in [`AesKey::encrypt`] and [`round`]. That a call takes the same time
+//! for all keys and blocks is not proved.
 //!
 //! From `crates/aes/src/uses.rt`:
 //! ```
@@ -17,7 +16,6 @@
 //! ```
 #![tactic(auto)]
 
-mod cipher;
 mod columns;
 mod counted_planes;
 mod counter;
@@ -26,14 +24,15 @@ mod inverse_lanes;
 mod key;
 mod key_planes;
 mod lanes;
+mod laws;
 mod planes;
-mod round_tables;
+mod round_table;
 mod schedule;
 mod uses;
 
-pub use cipher::{inverse_is_the_only, is_permutation};
 pub use columns::round;
 pub use counter::{Count, Ctr, CtrBe, CtrLe, FirstFour, KnownBlock, LastFour, blocks_count_on};
 pub use inverse_key::InverseKey;
 pub use key::AesKey;
+pub use laws::{inverse_is_the_only, is_permutation};
 pub use schedule::schedule_recurs;

@@ -14,7 +14,7 @@ mod Moves
 mod Placings
 mod LookUps
 mod Pairs
-mod LanePairs
+mod WordPairs
 mod PairedTables
 mod Entries
 mod Powers

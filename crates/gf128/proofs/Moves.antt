@@ -1,4 +1,4 @@
--- A word as two lanes of 64 bits that are shifted one by one, and three words as one number of 256 bits.
+-- A word as two halves of 64 bits that are shifted one by one, and three words as one number of 256 bits.
 use Rattle.std.proofs.Common.{◌≡◌, ℕ, ◌+◌, ◌*◌, ◌/◌, ◌%◌, ◌^◌, ◌<◌, ◌≤◌, Bool, List, [], ◌∷◌}
 use Rattle.std.proofs.Common.{replicate, bit_xor, refl, sym, ap, ap₂, ◌∙◌, arith, subst}
 use lib.Bits.{xor_zero_l, xor_zero_r}
@@ -13,7 +13,7 @@ use Rattle.octets.specs.Polynomial.{plus}
 use Rattle.octets.proofs.BitFacts.{bit_of_xor, same_bits}
 use Rattle.octets.proofs.Numbers.{le_halves}
 use Rattle.octets.proofs.Sequence.{plus_assoc, exchange}
-use Rattle.gf128.specs.Code.Words.{lanes_up, lanes_down, total}
+use Rattle.gf128.specs.Code.Words.{halves_up, halves_down, total}
 use Rattle.gf128.proofs.LaneWords.{le_block}
 
 -- ---- XOR
@@ -49,12 +49,12 @@ xor_shl k a b =
     let end : bit_xor a b * 2 ^ k + bit_xor 0 0 ≡ bit_xor a b * 2 ^ k = omega (arith, xor_zero_l 0) in
     sym (ap₂ bit_xor first second ∙ block ∙ end)
 
--- ---- lanes of 64 bits
+-- ---- halves of 64 bits
 
--- two lanes as sixteen bytes
-pub two_lanes : (a b : ℕ) → a < 2 ^ 64 → b < 2 ^ 64
+-- two halves as sixteen bytes
+pub two_halves : (a b : ℕ) → a < 2 ^ 64 → b < 2 ^ 64
     → digits_l 256 16 (number_l (2 ^ 64) (a ∷ b ∷ [])) ≡ to_le_bytes w128 (a + 2 ^ 64 * b)
-two_lanes a b la lb =
+two_halves a b la lb =
     let n : ℕ = a + 2 ^ 64 * b in
     let low : n % 2 ^ 64 ≡ a = omega arith in
     let high : n / 2 ^ 64 ≡ b = omega arith in
@@ -66,49 +66,49 @@ unfolding le
 number_of [] = refl
 number_of (b ∷ bs) = ap (λ (x : ℕ). b + 256 * x) (number_of bs)
 
--- the two lanes of a block, each changed by f
-pub changed_lanes : (f : ℕ → ℕ) (bs : List ℕ) → IsBlock bs → ((x : ℕ) → x < 2 ^ 64 → f x < 2 ^ 64)
+-- the two halves of a block, each changed by f
+pub changed_halves : (f : ℕ → ℕ) (bs : List ℕ) → IsBlock bs → ((x : ℕ) → x < 2 ^ 64 → f x < 2 ^ 64)
     → digits_l 256 16 (number_l (2 ^ 64) (f (number_l 256 bs % 2 ^ 64) ∷ f (number_l 256 bs / 2 ^ 64 % 2 ^ 64) ∷ []))
     ≡ to_le_bytes w128 (f (le bs % 2 ^ 64) + 2 ^ 64 * f (le bs / 2 ^ 64))
-changed_lanes f bs is small =
+changed_halves f bs is small =
     let n : ℕ = le bs in
     let whole : n < 2 ^ 128 = le_block bs is in
     let high : n / 2 ^ 64 % 2 ^ 64 ≡ n / 2 ^ 64 = omega arith in
     ap (λ (x : ℕ). digits_l 256 16 (number_l (2 ^ 64) (f (x % 2 ^ 64) ∷ f (x / 2 ^ 64 % 2 ^ 64) ∷ []))) (number_of bs)
     ∙ ap (λ (y : ℕ). digits_l 256 16 (number_l (2 ^ 64) (f (n % 2 ^ 64) ∷ f y ∷ []))) high
-    ∙ two_lanes (f (n % 2 ^ 64)) (f (n / 2 ^ 64)) (small (n % 2 ^ 64) (omega arith)) (small (n / 2 ^ 64) (omega arith))
+    ∙ two_halves (f (n % 2 ^ 64)) (f (n / 2 ^ 64)) (small (n % 2 ^ 64) (omega arith)) (small (n / 2 ^ 64) (omega arith))
 
 -- a number below 2^64 that is shifted down is below 2^64
 pub shr_small : (c x : ℕ) → x < 2 ^ 64 → x / 2 ^ c < 2 ^ 64
 shr_small c x l = let less : x / 2 ^ c ≤ x = shr_le x c in omega arith
 
--- both lanes shifted up
-pub up_lanes : (c : ℕ) (bs : List ℕ) → IsBlock bs
+-- both halves shifted up
+pub up_halves : (c : ℕ) (bs : List ℕ) → IsBlock bs
     → digits_l 256 16 (number_l (2 ^ 64) (zip2 (λ a b. a * 2 ^ b % 2 ^ 64) (digits_l (2 ^ 64) 2 (number_l 256 bs)) (replicate 2 c)))
-    ≡ to_le_bytes w128 (lanes_up c (le bs))
-up_lanes c bs is = changed_lanes (λ (x : ℕ). x * 2 ^ c % 2 ^ 64) bs is (λ x l. omega arith)
+    ≡ to_le_bytes w128 (halves_up c (le bs))
+up_halves c bs is = changed_halves (λ (x : ℕ). x * 2 ^ c % 2 ^ 64) bs is (λ x l. omega arith)
 
--- both lanes shifted down
-pub down_lanes : (c : ℕ) (bs : List ℕ) → IsBlock bs
+-- both halves shifted down
+pub down_halves : (c : ℕ) (bs : List ℕ) → IsBlock bs
     → digits_l 256 16 (number_l (2 ^ 64) (zip2 (λ a b. a / 2 ^ b) (digits_l (2 ^ 64) 2 (number_l 256 bs)) (replicate 2 c)))
-    ≡ to_le_bytes w128 (lanes_down c (le bs))
-down_lanes c bs is = changed_lanes (λ (x : ℕ). x / 2 ^ c) bs is (λ x l. shr_small c x l)
+    ≡ to_le_bytes w128 (halves_down c (le bs))
+down_halves c bs is = changed_halves (λ (x : ℕ). x / 2 ^ c) bs is (λ x l. shr_small c x l)
 
--- `lanes_up` gives a word
-pub lanes_up_lt : (c n : ℕ) → lanes_up c n < 2 ^ 128
-lanes_up_lt c n = omega arith
+-- `halves_up` gives a word
+pub halves_up_lt : (c n : ℕ) → halves_up c n < 2 ^ 128
+halves_up_lt c n = omega arith
 
--- `lanes_down` gives a word
-pub lanes_down_lt : (c n : ℕ) → n < 2 ^ 128 → lanes_down c n < 2 ^ 128
-lanes_down_lt c n small =
+-- `halves_down` gives a word
+pub halves_down_lt : (c n : ℕ) → n < 2 ^ 128 → halves_down c n < 2 ^ 128
+halves_down_lt c n small =
     let low : n % 2 ^ 64 / 2 ^ c < 2 ^ 64 = shr_small c (n % 2 ^ 64) (omega arith) in
     let high : n / 2 ^ 64 / 2 ^ c < 2 ^ 64 = shr_small c (n / 2 ^ 64) (omega arith) in
     omega arith
 
--- what a lane loses on its way up is what it gives shifted down; the rest is a multiple of 2^c
-lane_parts : (v c e : ℕ) → c + e ≡ 64 → (v * 2 ^ c ≡ v / 2 ^ e * 2 ^ 64 + v * 2 ^ c % 2 ^ 64)
+-- what a half loses on its way up is what it gives shifted down; the rest is a multiple of 2^c
+half_parts : (v c e : ℕ) → c + e ≡ 64 → (v * 2 ^ c ≡ v / 2 ^ e * 2 ^ 64 + v * 2 ^ c % 2 ^ 64)
     × (v * 2 ^ c % 2 ^ 64 ≡ v % 2 ^ e * 2 ^ c)
-lane_parts v c e at =
+half_parts v c e at =
     let out : v * 2 ^ c / 2 ^ 64 ≡ v / 2 ^ e =
     ap (λ (k : ℕ). v * 2 ^ c / 2 ^ k) (sym at) ∙ sym (shr-shr (v * 2 ^ c) c e) ∙ ap (λ (x : ℕ). x / 2 ^ e) (shl-shr v c) in
     let turned : e + c ≡ 64 = omega arith in
@@ -117,9 +117,9 @@ lane_parts v c e at =
     ∙ ap₂ (λ (x y : ℕ). x % 2 ^ e * 2 ^ c + y) (shl-shr v c) (mul-mod_left v (2 ^ c)) ∙ omega arith in
     (omega arith, rest)
 
--- a word times 2^c, where the lanes are shifted up, plus 2^64 times what they lose
+-- a word times 2^c, where the halves are shifted up, plus 2^64 times what they lose
 pub moved_up : (r c e : ℕ) → c + e ≡ 64 → r < 2 ^ 128
-    → bit_xor (lanes_up c r) (lanes_down e r * 2 ^ 64) ≡ r * 2 ^ c
+    → bit_xor (halves_up c r) (halves_down e r * 2 ^ 64) ≡ r * 2 ^ c
 moved_up r c e at small =
     let low : ℕ = r % 2 ^ 64 in
     let high : ℕ = r / 2 ^ 64 in
@@ -128,8 +128,8 @@ moved_up r c e at small =
     let p0 : ℕ = low / 2 ^ e in
     let p1 : ℕ = high / 2 ^ e in
     let t : ℕ = high % 2 ^ e in
-    let first = lane_parts low c e at in
-    let second = lane_parts high c e at in
+    let first = half_parts low c e at in
+    let second = half_parts high c e at in
     let some : 0 < 2 ^ c = pow_pos c in
     let whole : r ≡ high * 2 ^ 64 + low = omega arith in
     let split : r * 2 ^ c ≡ high * 2 ^ c * 2 ^ 64 + low * 2 ^ c =
@@ -152,9 +152,9 @@ moved_up r c e at small =
     let upper : bit_xor q1 (p0 + 2 ^ 64 * p1) ≡ p1 * 2 ^ 64 + (q1 + p0) =
     ap₂ bit_xor q1_is p_is
     ∙ xor_block 64 0 p1 q1 p0 l1 s0 ∙ ap₂ (λ (x y : ℕ). x * 2 ^ 64 + y) (xor_zero_l p1) apart in
-    let up_is : lanes_up c r ≡ q1 * 2 ^ 64 + q0 = omega arith in
-    let down_is : lanes_down e r * 2 ^ 64 ≡ (p0 + 2 ^ 64 * p1) * 2 ^ 64 + 0 = omega arith in
-    let all : bit_xor (lanes_up c r) (lanes_down e r * 2 ^ 64) ≡ (p1 * 2 ^ 64 + (q1 + p0)) * 2 ^ 64 + q0 =
+    let up_is : halves_up c r ≡ q1 * 2 ^ 64 + q0 = omega arith in
+    let down_is : halves_down e r * 2 ^ 64 ≡ (p0 + 2 ^ 64 * p1) * 2 ^ 64 + 0 = omega arith in
+    let all : bit_xor (halves_up c r) (halves_down e r * 2 ^ 64) ≡ (p1 * 2 ^ 64 + (q1 + p0)) * 2 ^ 64 + q0 =
     ap₂ bit_xor up_is down_is
     ∙ xor_block 64 q1 (p0 + 2 ^ 64 * p1) q0 0 l0 (omega arith)
     ∙ ap₂ (λ (x y : ℕ). x * 2 ^ 64 + y) upper (xor_zero_r q0) in
@@ -165,28 +165,28 @@ pub moved_back : (n s i k : ℕ) → s + i ≡ k → n * 2 ^ s / 2 ^ k ≡ n / 2
 moved_back n s i k at =
     ap (λ (j : ℕ). n * 2 ^ s / 2 ^ j) (sym at) ∙ sym (shr-shr (n * 2 ^ s) s i) ∙ ap (λ (x : ℕ). x / 2 ^ i) (shl-shr n s)
 
--- a word shifted down: the lanes are shifted down, and the lower one takes what the upper one loses
+-- a word shifted down: the halves are shifted down, and the lower one takes what the upper one loses
 pub shifted_is : (r c e : ℕ) → c + e ≡ 64 → r < 2 ^ 128
-    → bit_xor (lanes_up c (r / 2 ^ 64)) (lanes_down e r) ≡ r / 2 ^ e
+    → bit_xor (halves_up c (r / 2 ^ 64)) (halves_down e r) ≡ r / 2 ^ e
 shifted_is r c e at small =
     let low : ℕ = r % 2 ^ 64 in
     let high : ℕ = r / 2 ^ 64 in
     let q0 : ℕ = low * 2 ^ c % 2 ^ 64 in
     let q1 : ℕ = high * 2 ^ c % 2 ^ 64 in
-    let d : ℕ = lanes_down e r in
+    let d : ℕ = halves_down e r in
     let own : high % 2 ^ 64 ≡ high = omega arith in
     let none : high / 2 ^ 64 ≡ 0 = omega arith in
-    let one_lane : lanes_up c high ≡ q1 =
+    let one_half : halves_up c high ≡ q1 =
     ap₂ (λ (x y : ℕ). x * 2 ^ c % 2 ^ 64 + 2 ^ 64 * (y * 2 ^ c % 2 ^ 64)) own none
     ∙ ap (λ (x : ℕ). q1 + 2 ^ 64 * (x % 2 ^ 64)) (zero-mul (2 ^ c)) ∙ omega arith in
     let l0 : q0 < 2 ^ 64 = omega arith in
-    let up_is : lanes_up c r ≡ q1 * 2 ^ 64 + q0 = omega arith in
-    let above : lanes_up c r / 2 ^ 64 ≡ q1 = omega (arith, up_is, l0) in
-    ap₂ bit_xor (one_lane ∙ sym above) (sym (shl-shr d 64))
-    ∙ sym (xor_shr (lanes_up c r) (d * 2 ^ 64) 64) ∙ ap (λ (x : ℕ). x / 2 ^ 64) (moved_up r c e at small) ∙ moved_back r c e 64 at
+    let up_is : halves_up c r ≡ q1 * 2 ^ 64 + q0 = omega arith in
+    let above : halves_up c r / 2 ^ 64 ≡ q1 = omega (arith, up_is, l0) in
+    ap₂ bit_xor (one_half ∙ sym above) (sym (shl-shr d 64))
+    ∙ sym (xor_shr (halves_up c r) (d * 2 ^ 64) 64) ∙ ap (λ (x : ℕ). x / 2 ^ 64) (moved_up r c e at small) ∙ moved_back r c e 64 at
 
--- what falls out of a word that is shifted down by less than a lane, at the top of a word
-pub fallen_out : (n c : ℕ) → n < 2 ^ 128 → lanes_up c n * 2 ^ 64 % 2 ^ 128 ≡ n * 2 ^ (64 + c) % 2 ^ 128
+-- what falls out of a word that is shifted down by less than a half, at the top of a word
+pub fallen_out : (n c : ℕ) → n < 2 ^ 128 → halves_up c n * 2 ^ 64 % 2 ^ 128 ≡ n * 2 ^ (64 + c) % 2 ^ 128
 fallen_out n c small =
     let low : ℕ = n % 2 ^ 64 in
     let high : ℕ = n / 2 ^ 64 in
@@ -199,52 +199,52 @@ fallen_out n c small =
     ap (λ (x : ℕ). n * x) (pow-add 2 64 c ∙ mul_comm (2 ^ 64) (2 ^ c)) ∙ sym (mul_assoc n (2 ^ c) (2 ^ 64)) in
     omega (arith, split, all)
 
--- the lower lane in the place of the upper one
-pub lane_above : (bs : List ℕ) → IsBlock bs → digits_l 256 16 (number_l (2 ^ 64) (0 ∷ number_l 256 bs % 2 ^ 64 ∷ []))
+-- the lower half in the place of the upper one
+pub half_above : (bs : List ℕ) → IsBlock bs → digits_l 256 16 (number_l (2 ^ 64) (0 ∷ number_l 256 bs % 2 ^ 64 ∷ []))
     ≡ to_le_bytes w128 (le bs * 2 ^ 64 % 2 ^ 128)
-lane_above bs is =
+half_above bs is =
     let n : ℕ = le bs in
     let small : n < 2 ^ 128 = le_block bs is in
     let number : 0 + 2 ^ 64 * (n % 2 ^ 64) ≡ n * 2 ^ 64 % 2 ^ 128 = omega arith in
     ap (λ (x : ℕ). digits_l 256 16 (number_l (2 ^ 64) (0 ∷ x % 2 ^ 64 ∷ []))) (number_of bs)
-    ∙ two_lanes 0 (n % 2 ^ 64) (omega arith) (omega arith) ∙ ap (to_le_bytes w128) number
+    ∙ two_halves 0 (n % 2 ^ 64) (omega arith) (omega arith) ∙ ap (to_le_bytes w128) number
 
--- the upper lane in the place of the lower one
-pub lane_below : (bs : List ℕ) → IsBlock bs → digits_l 256 16 (number_l (2 ^ 64) (number_l 256 bs / 2 ^ 64 % 2 ^ 64 ∷ 0 ∷ []))
+-- the upper half in the place of the lower one
+pub half_below : (bs : List ℕ) → IsBlock bs → digits_l 256 16 (number_l (2 ^ 64) (number_l 256 bs / 2 ^ 64 % 2 ^ 64 ∷ 0 ∷ []))
     ≡ to_le_bytes w128 (le bs / 2 ^ 64)
-lane_below bs is =
+half_below bs is =
     let n : ℕ = le bs in
     let small : n < 2 ^ 128 = le_block bs is in
     let number : n / 2 ^ 64 % 2 ^ 64 + 2 ^ 64 * 0 ≡ n / 2 ^ 64 = omega arith in
     ap (λ (x : ℕ). digits_l 256 16 (number_l (2 ^ 64) (x / 2 ^ 64 % 2 ^ 64 ∷ 0 ∷ []))) (number_of bs)
-    ∙ two_lanes (n / 2 ^ 64 % 2 ^ 64) 0 (omega arith) (omega arith) ∙ ap (to_le_bytes w128) number
+    ∙ two_halves (n / 2 ^ 64 % 2 ^ 64) 0 (omega arith) (omega arith) ∙ ap (to_le_bytes w128) number
 
 -- ---- three words as one number
 
--- a word that is moved by less than a lane
+-- a word that is moved by less than a half
 pub total_low : (a b c r i e : ℕ) → i + e ≡ 64 → r < 2 ^ 128
-    → total (bit_xor a (lanes_up i r)) (bit_xor b (lanes_down e r)) c ≡ bit_xor (total a b c) (r * 2 ^ i)
+    → total (bit_xor a (halves_up i r)) (bit_xor b (halves_down e r)) c ≡ bit_xor (total a b c) (r * 2 ^ i)
 total_low a b c r i e at small =
-    let u : ℕ = lanes_up i r in
-    let d : ℕ = lanes_down e r in
+    let u : ℕ = halves_up i r in
+    let d : ℕ = halves_down e r in
     ap (λ (x : ℕ). bit_xor (bit_xor a u) (bit_xor x (c * 2 ^ 128))) (xor_shl 64 b d)
     ∙ ap (bit_xor (bit_xor a u)) (xor_swap (b * 2 ^ 64) (d * 2 ^ 64) (c * 2 ^ 128))
     ∙ xor_exchange a u (bit_xor (b * 2 ^ 64) (c * 2 ^ 128)) (d * 2 ^ 64)
     ∙ ap (bit_xor (total a b c)) (moved_up r i e at small)
 
--- a word that is moved by a lane
+-- a word that is moved by a half
 pub total_middle : (a b c r : ℕ) → total a (bit_xor b r) c ≡ bit_xor (total a b c) (r * 2 ^ 64)
 total_middle a b c r =
     ap (λ (x : ℕ). bit_xor a (bit_xor x (c * 2 ^ 128))) (xor_shl 64 b r)
     ∙ ap (bit_xor a) (xor_swap (b * 2 ^ 64) (r * 2 ^ 64) (c * 2 ^ 128))
     ∙ sym (xor_assoc a (bit_xor (b * 2 ^ 64) (c * 2 ^ 128)) (r * 2 ^ 64))
 
--- a word that is moved by more than a lane
+-- a word that is moved by more than a half
 pub total_high : (a b c r i e : ℕ) → i + e ≡ 64 → r < 2 ^ 128
-    → total a (bit_xor b (lanes_up i r)) (bit_xor c (lanes_down e r)) ≡ bit_xor (total a b c) (r * 2 ^ (64 + i))
+    → total a (bit_xor b (halves_up i r)) (bit_xor c (halves_down e r)) ≡ bit_xor (total a b c) (r * 2 ^ (64 + i))
 total_high a b c r i e at small =
-    let u : ℕ = lanes_up i r in
-    let d : ℕ = lanes_down e r in
+    let u : ℕ = halves_up i r in
+    let d : ℕ = halves_down e r in
     let moved : bit_xor (u * 2 ^ 64) (d * 2 ^ 128) ≡ r * 2 ^ (64 + i) =
     ap (bit_xor (u * 2 ^ 64)) (omega arith) ∙ sym (xor_shl 64 u (d * 2 ^ 64))
     ∙ ap (λ (x : ℕ). x * 2 ^ 64) (moved_up r i e at small)
@@ -254,7 +254,7 @@ total_high a b c r i e at small =
     ∙ sym (xor_assoc a (bit_xor (b * 2 ^ 64) (c * 2 ^ 128)) (bit_xor (u * 2 ^ 64) (d * 2 ^ 128)))
     ∙ ap (bit_xor (total a b c)) moved
 
--- a word that is moved by two lanes
+-- a word that is moved by two halves
 pub total_last : (a b c r : ℕ) → total a b (bit_xor c r) ≡ bit_xor (total a b c) (r * 2 ^ 128)
 total_last a b c r =
     ap (λ (x : ℕ). bit_xor a (bit_xor (b * 2 ^ 64) x)) (xor_shl 128 c r)

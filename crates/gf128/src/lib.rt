@@ -21,8 +21,6 @@ mod ghash;
 mod hash;
 mod hash_order;
 mod keyed;
-mod lane_pairs;
-mod lanes;
 mod nibbles;
 mod paired;
 mod placed;
@@ -32,6 +30,8 @@ mod table_mul;
 mod tables;
 mod uses;
 mod wide_mul;
+mod word_bytes;
+mod word_pairs;
 
 pub use bit_mul::BitMul;
 pub use ghash::{Ghash, GhashOrder, ghash_is_the_only};

@@ -5,15 +5,15 @@ ghost use Rattle.std.specs.Prelude.{◌≡◌, ℕ, ◌/◌, ◌%◌, ◌<◌, �
 ghost use Rattle.octets.specs.Bytes.{le};
 ghost use Rattle.gf128.specs.Code.Words.{looked_up, both};
 
-use crate::lane_pairs::LanePair;
-use crate::lanes::Lanes;
+use crate::word_bytes::WordBytes;
+use crate::word_pairs::WordPair;
 use std::simd::prelude::*;
 use std::simd::{u8x16, u8x32};
 
 // The bytes of a word, and the high and the low four bits of each.
 #[derive(Drop, Clone, Copy)]
 pub(crate) struct Nibbles {
-    word: Lanes,
+    word: WordBytes,
     high: u8x16,
     low: u8x16,
     ghost long_high: { length high ≡ 16 },
@@ -25,7 +25,7 @@ pub(crate) struct Nibbles {
 impl Nibbles {
     // Splits the bytes of a word.
     #[inline(always)]
-    pub(crate) fn of(word: Lanes) -> Nibbles
+    pub(crate) fn of(word: WordBytes) -> Nibbles
         ensures { result.word ≡ word }
     {
         Nibbles {
@@ -37,12 +37,12 @@ impl Nibbles {
 
     // Looks the high four bits of each byte up in one table and the low four bits in another, and XORs what they give.
     #[inline(always)]
-    pub(crate) fn look(self, high: [u8; 16], low: [u8; 16]) -> Lanes
+    pub(crate) fn look(self, high: [u8; 16], low: [u8; 16]) -> WordBytes
         ensures { result.bytes ≡ looked_up high low self.word.bytes }
     {
         let by_high = u8x16::from_array(high).swizzle_dyn_within::<16>(self.high);
         let by_low = u8x16::from_array(low).swizzle_dyn_within::<16>(self.low);
-        Lanes {
+        WordBytes {
             bytes: by_high ^ by_low,
         }
     }
@@ -51,8 +51,8 @@ impl Nibbles {
 // The bytes of two words, and the high and the low four bits of each, in vectors of 32 bytes.
 #[derive(Drop, Clone, Copy)]
 pub(crate) struct NibblePairs {
-    first: Lanes,
-    second: Lanes,
+    first: WordBytes,
+    second: WordBytes,
     high: u8x32,
     low: u8x32,
     ghost long_high: { length high ≡ 32 },
@@ -64,11 +64,11 @@ pub(crate) struct NibblePairs {
 impl NibblePairs {
     // Splits the bytes of two words.
     #[inline(always)]
-    pub(crate) fn of(first: Lanes, second: Lanes) -> NibblePairs
+    pub(crate) fn of(first: WordBytes, second: WordBytes) -> NibblePairs
         ensures first { result.first ≡ first }
         ensures second { result.second ≡ second }
     {
-        let pair = LanePair::of(first, second);
+        let pair = WordPair::of(first, second);
         NibblePairs {
             first,
             second,
@@ -80,13 +80,13 @@ impl NibblePairs {
     // Looks the bytes of each word up in a pair of tables of its own, as [`Nibbles::look`] does: those of the first word in the
     // first halves of these tables, and those of the second word in the second halves.
     #[inline(always)]
-    pub(crate) fn look(self, high: LanePair, low: LanePair) -> LanePair
+    pub(crate) fn look(self, high: WordPair, low: WordPair) -> WordPair
         ensures { both result.bytes ≡ bit_xor (le (looked_up (take 16 high.bytes) (take 16 low.bytes) self.first.bytes))
             (le (looked_up (drop 16 high.bytes) (drop 16 low.bytes) self.second.bytes)) }
     {
         let by_high = high.bytes.swizzle_dyn_within::<16>(self.high);
         let by_low = low.bytes.swizzle_dyn_within::<16>(self.low);
-        LanePair {
+        WordPair {
             bytes: by_high ^ by_low,
         }
     }

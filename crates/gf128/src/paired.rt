@@ -5,11 +5,11 @@ ghost use Rattle.gf128.specs.Code.Words.{both, first_tables, second_tables, look
 ghost use Rattle.gf128.specs.Code.PlainMultiples.{ArePaired};
 ghost use Rattle.octets.specs.Bytes.{le};
 
-use crate::lane_pairs::LanePair;
-use crate::lanes::Lanes;
 use crate::nibbles::NibblePairs;
 use crate::placed::PlacedPairs;
 use crate::tables::PlainMultiples;
+use crate::word_bytes::WordBytes;
+use crate::word_pairs::WordPair;
 
 // The tables of two words: those of the first one are the first halves of the tables of 32 bytes.
 #[derive(Drop)]
@@ -27,8 +27,8 @@ impl PairTables {
         let mut high = [[0; 32]; 16];
         let mut low = [[0; 32]; 16];
         'tables: for j in 0..16usize {
-            let high_pair = LanePair::of(first.high_table(j), second.high_table(j));
-            let low_pair = LanePair::of(first.low_table(j), second.low_table(j));
+            let high_pair = WordPair::of(first.high_table(j), second.high_table(j));
+            let low_pair = WordPair::of(first.low_table(j), second.low_table(j));
             high[j] = high_pair.bytes.to_array();
             low[j] = low_pair.bytes.to_array();
         }
@@ -37,14 +37,14 @@ impl PairTables {
 
     // What the tables of byte `j` of the multiples give for the bytes of two words.
     #[inline(always)]
-    fn part(&self, at: NibblePairs, j: usize) -> LanePair
+    fn part(&self, at: NibblePairs, j: usize) -> WordPair
         requires { j < 16 }
         ensures { let s = self.now in both result.bytes
             ≡ bit_xor (looked_word (first_tables s.high) (first_tables s.low) at.first.bytes j)
             (looked_word (second_tables s.high) (second_tables s.low) at.second.bytes j) }
     {
-        let high = LanePair::of_bytes(self.high[j]);
-        let low = LanePair::of_bytes(self.low[j]);
+        let high = WordPair::of_bytes(self.high[j]);
+        let low = WordPair::of_bytes(self.low[j]);
         at.look(high, low)
     }
 }
@@ -57,7 +57,7 @@ fn part_of_four(
     ab: NibblePairs,
     cd: NibblePairs,
     j: usize,
-) -> LanePair
+) -> WordPair
     requires { j < 16 }
     ensures { let u = upper.now in let l = lower.now in both result.bytes
         ≡ looked_four (looked_word (first_tables u.high) (first_tables u.low) ab.first.bytes)
@@ -75,11 +75,11 @@ fn part_of_four(
 pub(crate) fn times_pairs(
     upper: &PairTables,
     lower: &PairTables,
-    a: Lanes,
-    b: Lanes,
-    c: Lanes,
-    d: Lanes,
-) -> Lanes
+    a: WordBytes,
+    b: WordBytes,
+    c: WordBytes,
+    d: WordBytes,
+) -> WordBytes
     ensures { let u = upper.now in let l = lower.now in le result.bytes
         ≡ folded_wide (placed (looked_four (looked_word (first_tables u.high) (first_tables u.low) a.bytes)
         (looked_word (second_tables u.high) (second_tables u.low) b.bytes)

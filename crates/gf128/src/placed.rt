@@ -1,19 +1,19 @@
 //! A sum of words, each moved up by some places, that is reduced once at the end (SP 800-38D, 6.3). Its three vectors overlap: a
-//! lane of 64 bits is shifted by itself, and what it loses goes to the next vector.
+//! half of 64 bits is shifted by itself, and what it loses goes to the next vector.
 
 ghost use Rattle.std.specs.Prelude.{◌≡◌, ◌+◌, ◌*◌, ◌^◌, ◌<◌, bit_xor};
 ghost use Rattle.octets.specs.Bytes.{le};
 ghost use Rattle.gf128.specs.Code.Words.{total, both, folded_wide};
 
-use crate::lane_pairs::LanePair;
-use crate::lanes::Lanes;
+use crate::word_bytes::WordBytes;
+use crate::word_pairs::WordPair;
 
 // A number of 256 bits: the XOR of a word, of one that is moved up by 64 places, and of one that is moved up by 128.
 #[derive(Drop, Clone, Copy)]
 pub(crate) struct Placed {
-    low: Lanes,
-    middle: Lanes,
-    high: Lanes,
+    low: WordBytes,
+    middle: WordBytes,
+    high: WordBytes,
 }
 
 impl Placed {
@@ -22,7 +22,7 @@ impl Placed {
     pub(crate) fn none() -> Placed
         ensures { total (le result.low.bytes) (le result.middle.bytes) (le result.high.bytes) ≡ 0 }
     {
-        let zero = Lanes::of(0);
+        let zero = WordBytes::of(0);
         Placed {
             low: zero,
             middle: zero,
@@ -32,7 +32,7 @@ impl Placed {
 
     // XORs in a word that is moved up by `count` places, fewer than 64.
     #[inline(always)]
-    pub(crate) fn low(self, word: Lanes, count: u64) -> Placed
+    pub(crate) fn low(self, word: WordBytes, count: u64) -> Placed
         requires some { 0 < count }
         requires within { count < 64 }
         ensures { total (le result.low.bytes) (le result.middle.bytes) (le result.high.bytes)
@@ -47,7 +47,7 @@ impl Placed {
 
     // XORs in a word that is moved up by 64 places.
     #[inline(always)]
-    pub(crate) fn middle(self, word: Lanes) -> Placed
+    pub(crate) fn middle(self, word: WordBytes) -> Placed
         ensures { total (le result.low.bytes) (le result.middle.bytes) (le result.high.bytes)
             ≡ bit_xor (total (le self.low.bytes) (le self.middle.bytes) (le self.high.bytes)) (le word.bytes * 2 ^ 64) }
     {
@@ -60,7 +60,7 @@ impl Placed {
 
     // XORs in a word that is moved up by 64 + `count` places, fewer than 128.
     #[inline(always)]
-    pub(crate) fn high(self, word: Lanes, count: u64) -> Placed
+    pub(crate) fn high(self, word: WordBytes, count: u64) -> Placed
         requires some { 0 < count }
         requires within { count < 64 }
         ensures { total (le result.low.bytes) (le result.middle.bytes) (le result.high.bytes)
@@ -75,11 +75,11 @@ impl Placed {
 
     // XORs in a word that is moved up by 128 places, and reduces the number.
     #[inline(always)]
-    pub(crate) fn reduce_with(self, word: Lanes) -> Lanes
+    pub(crate) fn reduce_with(self, word: WordBytes) -> WordBytes
         ensures { le result.bytes ≡ folded_wide (bit_xor (total (le self.low.bytes) (le self.middle.bytes) (le self.high.bytes)) (le word.bytes * 2 ^ 128)) }
     {
-        let above = self.middle.lane_up();
-        let below = self.middle.lane_down();
+        let above = self.middle.half_up();
+        let below = self.middle.half_down();
         let low = self.low.xor(above);
         let last = self.high.xor(word);
         let high = below.xor(last);
@@ -91,9 +91,9 @@ impl Placed {
 // Two such numbers at once, in the halves of vectors of 32 bytes. Their XOR is the sum.
 #[derive(Drop, Clone, Copy)]
 pub(crate) struct PlacedPairs {
-    low: LanePair,
-    middle: LanePair,
-    high: LanePair,
+    low: WordPair,
+    middle: WordPair,
+    high: WordPair,
 }
 
 impl PlacedPairs {
@@ -102,7 +102,7 @@ impl PlacedPairs {
     pub(crate) fn none() -> PlacedPairs
         ensures { total (both result.low.bytes) (both result.middle.bytes) (both result.high.bytes) ≡ 0 }
     {
-        let zero = LanePair::zero();
+        let zero = WordPair::zero();
         PlacedPairs {
             low: zero,
             middle: zero,
@@ -112,7 +112,7 @@ impl PlacedPairs {
 
     // XORs in two words that are moved up by `count` places, fewer than 64.
     #[inline(always)]
-    pub(crate) fn low(self, words: LanePair, count: u64) -> PlacedPairs
+    pub(crate) fn low(self, words: WordPair, count: u64) -> PlacedPairs
         requires some { 0 < count }
         requires within { count < 64 }
         ensures { total (both result.low.bytes) (both result.middle.bytes) (both result.high.bytes)
@@ -127,7 +127,7 @@ impl PlacedPairs {
 
     // XORs in two words that are moved up by 64 places.
     #[inline(always)]
-    pub(crate) fn middle(self, words: LanePair) -> PlacedPairs
+    pub(crate) fn middle(self, words: WordPair) -> PlacedPairs
         ensures { total (both result.low.bytes) (both result.middle.bytes) (both result.high.bytes)
             ≡ bit_xor (total (both self.low.bytes) (both self.middle.bytes) (both self.high.bytes)) (both words.bytes * 2 ^ 64) }
     {
@@ -140,7 +140,7 @@ impl PlacedPairs {
 
     // XORs in two words that are moved up by 64 + `count` places, fewer than 128.
     #[inline(always)]
-    pub(crate) fn high(self, words: LanePair, count: u64) -> PlacedPairs
+    pub(crate) fn high(self, words: WordPair, count: u64) -> PlacedPairs
         requires some { 0 < count }
         requires within { count < 64 }
         ensures { total (both result.low.bytes) (both result.middle.bytes) (both result.high.bytes)
@@ -155,7 +155,7 @@ impl PlacedPairs {
 
     // XORs in two words that are moved up by 128 places, and reduces the XOR of the two numbers.
     #[inline(always)]
-    pub(crate) fn reduce_with(self, words: LanePair) -> Lanes
+    pub(crate) fn reduce_with(self, words: WordPair) -> WordBytes
         ensures { le result.bytes ≡ folded_wide (bit_xor (total (both self.low.bytes) (both self.middle.bytes) (both self.high.bytes))
             (both words.bytes * 2 ^ 128)) }
     {

@@ -5,7 +5,7 @@ ghost use Rattle.octets.specs.Bytes.{IsBlock, le};
 ghost use Rattle.octets.specs.Bits.{g, v};
 ghost use Rattle.gf128.specs.Code.Words.{of_word, times_x};
 
-use crate::lanes::Lanes;
+use crate::word_bytes::WordBytes;
 use octets::{Block, be_bytes, le_bytes};
 use std::simd::prelude::*;
 
@@ -26,8 +26,8 @@ pub(crate) fn word_of(block: &[u8; 16]) -> u128
 pub(crate) fn word_bytes(block: &[u8; 16]) -> [u8; 16]
     ensures { of_word (le result) ≡ g block.now }
 {
-    let lanes = Lanes::of_bytes(*block);
-    lanes.bytes.reverse().to_array()
+    let word = WordBytes::of_bytes(*block);
+    word.bytes.reverse().to_array()
 }
 
 // The bytes of the word of the block with its bytes in reverse order, the least significant one first.
@@ -35,8 +35,8 @@ pub(crate) fn word_bytes(block: &[u8; 16]) -> [u8; 16]
 pub(crate) fn reversed_word_bytes(block: &[u8; 16]) -> [u8; 16]
     ensures { of_word (le result) ≡ g (reverse block.now) }
 {
-    let lanes = Lanes::of_bytes(*block);
-    lanes.bytes.to_array()
+    let word = WordBytes::of_bytes(*block);
+    word.bytes.to_array()
 }
 
 // The word of the block with its bytes in reverse order.

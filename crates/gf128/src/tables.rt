@@ -7,9 +7,9 @@ ghost use Rattle.octets.specs.Bytes.{le};
 ghost use Rattle.gf128.specs.Code.Words.{of_word, entry, looked_up, table_at, AreBytes, AreMultiples};
 ghost use Rattle.gf128.specs.Code.Words.{IsBitsProduct, IsWordProduct};
 
-use crate::lanes::Lanes;
 use crate::nibbles::Nibbles;
 use crate::placed::Placed;
+use crate::word_bytes::WordBytes;
 use std::simd::prelude::*;
 use std::simd::u8x16;
 
@@ -29,7 +29,7 @@ const REMAINDERS: [u8; 16] = [0, 1, 2, 3, 0, 1, 2, 3, 0, 1, 2, 3, 0, 1, 2, 3];
 
 // Four bytes of two words, from byte 4 * `group` on: of each the four sums of none, the second word's, the first word's, and both.
 #[inline(always)]
-fn pair_sums(first: Lanes, second: Lanes, group: usize) -> u8x16
+fn pair_sums(first: WordBytes, second: WordBytes, group: usize) -> u8x16
     requires { group < 4 }
     ensures { (k : ℕ) → k < 16 → slice_index result k ≡ bit_xor (k % 4 / 2 * slice_index first.bytes (4 * group + k / 4))
         (k % 4 % 2 * slice_index second.bytes (4 * group + k / 4)) }
@@ -55,7 +55,7 @@ fn table_of(high: u8x16, low: u8x16, place: usize) -> [u8; 16]
 
 // The sixteen multiples of a word by four bits, which are sums of the word times 1, x, x^2 and x^3. Table j has byte j of each.
 #[inline(always)]
-fn sixteen_tables(once: Lanes) -> [[u8; 16]; 16]
+fn sixteen_tables(once: WordBytes) -> [[u8; 16]; 16]
     ensures { (n : ℕ) → n < 16 → IsBitsProduct 4 n (le once.bytes) (entry result n) }
 {
     let by_x = once.times_power(1);
@@ -104,7 +104,7 @@ impl PlainMultiples {
     pub(crate) fn of(word: u128) -> PlainMultiples
         ensures { AreMultiples (of_word word) (entry result.high) (entry result.low) }
     {
-        let once = Lanes::of(word);
+        let once = WordBytes::of(word);
         let by_x4 = once.times_power(4);
         PlainMultiples {
             high: sixteen_tables(once),
@@ -126,25 +126,25 @@ impl PlainMultiples {
 
     // The table of byte `j` of the multiples by the high four bits.
     #[inline(always)]
-    pub(crate) fn high_table(&self, j: usize) -> Lanes
+    pub(crate) fn high_table(&self, j: usize) -> WordBytes
         requires { j < 16 }
         ensures { result.bytes ≡ table_at self.now.high j }
     {
-        Lanes::of_bytes(self.high[j])
+        WordBytes::of_bytes(self.high[j])
     }
 
     // The table of byte `j` of the multiples by the low four bits.
     #[inline(always)]
-    pub(crate) fn low_table(&self, j: usize) -> Lanes
+    pub(crate) fn low_table(&self, j: usize) -> WordBytes
         requires { j < 16 }
         ensures { result.bytes ≡ table_at self.now.low j }
     {
-        Lanes::of_bytes(self.low[j])
+        WordBytes::of_bytes(self.low[j])
     }
 
     // What the tables of byte `j` of the multiples give for the bytes of a word.
     #[inline(always)]
-    pub(crate) fn part(&self, at: Nibbles, j: usize) -> Lanes
+    pub(crate) fn part(&self, at: Nibbles, j: usize) -> WordBytes
         requires { j < 16 }
         ensures { result.bytes ≡ looked_up (table_at self.now.high j) (table_at self.now.low j) at.word.bytes }
     {
@@ -153,7 +153,7 @@ impl PlainMultiples {
 
     // Multiplies the word whose multiples these are by another word, both as vectors.
     #[inline(always)]
-    pub(crate) fn times_lanes(&self, word: Lanes) -> Lanes
+    pub(crate) fn times_bytes(&self, word: WordBytes) -> WordBytes
         ensures { (h : ℕ) → AreMultiples (of_word h) (entry self.now.high) (entry self.now.low)
             → IsWordProduct (le word.bytes) (to_be_bytes w128 h) (le result.bytes) }
     {
@@ -178,7 +178,7 @@ impl PlainMultiples {
         ensures { (h : ℕ) → AreMultiples (of_word h) (entry self.now.high) (entry self.now.low)
             → IsWordProduct x (to_be_bytes w128 h) result }
     {
-        let word = Lanes::of(x);
-        self.times_lanes(word).word()
+        let word = WordBytes::of(x);
+        self.times_bytes(word).word()
     }
 }

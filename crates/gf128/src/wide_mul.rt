@@ -9,12 +9,12 @@ ghost use Rattle.gf128.specs.Code.PlainMultiples.{ArePaired};
 ghost use Rattle.gf128.specs.Orders.{sum_after, IsSumAfter};
 
 use crate::hash_order::HashOrder;
-use crate::lanes::Lanes;
 use crate::nibbles::Nibbles;
 use crate::paired::{PairTables, times_pairs};
 use crate::placed::Placed;
 use crate::table_mul::{TableMul, times_few};
 use crate::tables::PlainMultiples;
+use crate::word_bytes::WordBytes;
 use crate::{Keyed128, Multiply};
 use octets::{Block, WIDE};
 
@@ -48,7 +48,7 @@ struct FourWords {
 impl FourWords {
     // The word for the fourth power comes first.
     #[inline(always)]
-    fn of(a: Lanes, b: Lanes, c: Lanes, d: Lanes) -> FourWords
+    fn of(a: WordBytes, b: WordBytes, c: WordBytes, d: WordBytes) -> FourWords
         ensures fourth { result.fourth.word ≡ a }
         ensures third { result.third.word ≡ b }
         ensures second { result.second.word ≡ c }
@@ -66,7 +66,7 @@ impl FourWords {
 impl WideMul {
     // XORs what the tables of byte `j` of the multiples give for four words, each with the tables of its own power.
     #[inline(always)]
-    fn part(&self, words: FourWords, j: usize) -> Lanes
+    fn part(&self, words: FourWords, j: usize) -> WordBytes
         requires { j < 16 }
         ensures { let s = self.now in le result.bytes
             ≡ looked_four (looked_word s.fourth.multiples.high s.fourth.multiples.low words.fourth.word.bytes)
@@ -85,7 +85,7 @@ impl WideMul {
 
     // The sum of four words times four powers of the key, the fourth power first.
     #[inline(always)]
-    fn times_lanes(&self, a: Lanes, b: Lanes, c: Lanes, d: Lanes) -> Lanes
+    fn times_bytes(&self, a: WordBytes, b: WordBytes, c: WordBytes, d: WordBytes) -> WordBytes
         ensures { IsFourProducts (le a.bytes) (le b.bytes) (le c.bytes) (le d.bytes) (to_be_bytes w128 self.now.first.word) (le result.bytes) }
     {
         self.first.multiples.bytes_known();
@@ -125,15 +125,15 @@ impl WideMul {
 
     // The same, by tables in pairs.
     #[inline(always)]
-    fn times_lanes_by_pairs(
+    fn times_bytes_by_pairs(
         &self,
         upper: &PairTables,
         lower: &PairTables,
-        a: Lanes,
-        b: Lanes,
-        c: Lanes,
-        d: Lanes,
-    ) -> Lanes
+        a: WordBytes,
+        b: WordBytes,
+        c: WordBytes,
+        d: WordBytes,
+    ) -> WordBytes
         requires upper { ArePaired upper.now.high upper.now.low self.now.fourth.multiples self.now.third.multiples }
         requires lower { ArePaired lower.now.high lower.now.low self.now.second.multiples self.now.first.multiples }
         ensures { IsFourProducts (le a.bytes) (le b.bytes) (le c.bytes) (le d.bytes) (to_be_bytes w128 self.now.first.word) (le result.bytes) }
@@ -152,14 +152,14 @@ impl WideMul {
             (sum_after O.order (to_be_bytes w128 self.now.first.word) (of_word sum) blocks (length fours.now * 4)) }
     {
         // The sum stays a vector from one run of four blocks to the next.
-        let mut total = Lanes::of(sum);
+        let mut total = WordBytes::of(sum);
         'fours: for four in fours {
-            let first = Lanes::of_bytes(O::word_bytes(&four[0]));
+            let first = WordBytes::of_bytes(O::word_bytes(&four[0]));
             let a = total.xor(first);
-            let b = Lanes::of_bytes(O::word_bytes(&four[1]));
-            let c = Lanes::of_bytes(O::word_bytes(&four[2]));
-            let d = Lanes::of_bytes(O::word_bytes(&four[3]));
-            total = self.times_lanes(a, b, c, d);
+            let b = WordBytes::of_bytes(O::word_bytes(&four[1]));
+            let c = WordBytes::of_bytes(O::word_bytes(&four[2]));
+            let d = WordBytes::of_bytes(O::word_bytes(&four[3]));
+            total = self.times_bytes(a, b, c, d);
         }
         total.word()
     }
@@ -172,14 +172,14 @@ impl WideMul {
     {
         let upper = PairTables::of(&self.fourth.multiples, &self.third.multiples);
         let lower = PairTables::of(&self.second.multiples, &self.first.multiples);
-        let mut total = Lanes::of(sum);
+        let mut total = WordBytes::of(sum);
         'fours: for run in fours {
-            let first = Lanes::of_bytes(O::word_bytes(&run[0]));
+            let first = WordBytes::of_bytes(O::word_bytes(&run[0]));
             let a = total.xor(first);
-            let b = Lanes::of_bytes(O::word_bytes(&run[1]));
-            let c = Lanes::of_bytes(O::word_bytes(&run[2]));
-            let d = Lanes::of_bytes(O::word_bytes(&run[3]));
-            total = self.times_lanes_by_pairs(&upper, &lower, a, b, c, d);
+            let b = WordBytes::of_bytes(O::word_bytes(&run[1]));
+            let c = WordBytes::of_bytes(O::word_bytes(&run[2]));
+            let d = WordBytes::of_bytes(O::word_bytes(&run[3]));
+            total = self.times_bytes_by_pairs(&upper, &lower, a, b, c, d);
         }
         total.word()
     }

@@ -57,13 +57,13 @@ reduction = 0xe1000000000000000000000000000000
 abbrev pub times_x : ℕ → ℕ
 times_x n = bit_xor (n / 2) (n % 2 * reduction)
 
--- the word n with each of its two lanes of 64 bits shifted up by c places
-abbrev pub lanes_up : ℕ → ℕ → ℕ
-lanes_up c n = n % 2 ^ 64 * 2 ^ c % 2 ^ 64 + 2 ^ 64 * (n / 2 ^ 64 * 2 ^ c % 2 ^ 64)
+-- the word n with each of its two halves of 64 bits shifted up by c places
+abbrev pub halves_up : ℕ → ℕ → ℕ
+halves_up c n = n % 2 ^ 64 * 2 ^ c % 2 ^ 64 + 2 ^ 64 * (n / 2 ^ 64 * 2 ^ c % 2 ^ 64)
 
--- the word n with each of its two lanes of 64 bits shifted down by c places
-abbrev pub lanes_down : ℕ → ℕ → ℕ
-lanes_down c n = n % 2 ^ 64 / 2 ^ c + 2 ^ 64 * (n / 2 ^ 64 / 2 ^ c)
+-- the word n with each of its two halves of 64 bits shifted down by c places
+abbrev pub halves_down : ℕ → ℕ → ℕ
+halves_down c n = n % 2 ^ 64 / 2 ^ c + 2 ^ 64 * (n / 2 ^ 64 / 2 ^ c)
 
 -- the number of 256 bits that three words make, the second one moved up by 64 places and the third by 128
 abbrev pub total : ℕ → ℕ → ℕ → ℕ

@@ -1,4 +1,4 @@
-use Rattle.std.proofs.Common.{ℕ, get_or, ap, ◌∙◌, List}
+use Rattle.std.proofs.Common.{ℕ, get_or, ap, ap₂, ◌∙◌, List, arith, bit_xor}
 use Rattle.aes.specs.Field.{sbox}
 use Rattle.aes.specs.Schedule.{xor_word}
 use Rattle.aes.specs.Cipher.{mix_column}
@@ -19,10 +19,14 @@ returns t =
     let row1 : ℕ = get_or t.to_le_bytes-2.result 1 0 in
     let row2 : ℕ = get_or t.to_le_bytes-3.result 2 0 in
     let row3 : ℕ = get_or t.to_le_bytes-4.result 3 0 in
-    mixed_is (sbox row0) (sbox row1) (sbox row2) (sbox row3) key t.entry.result t.entry_row1.result
-    t.entry_row2.result t.entry_row3.result
+    ap (λ (x : ℕ). column_of (bit_xor (bit_xor t.entry-4.result x) key)) (
+    ap₂ bit_xor t.rotate_left-second.ensures
+    (ap₂ bit_xor t.rotate_left-third.ensures t.rotate_left-fourth.ensures))
+    ∙ mixed_is (sbox row0) (sbox row1) (sbox row2) (sbox row3) key t.entry-4.result t.entry.result
+    t.entry-2.result t.entry-3.result
     (sbox_small row0 (rw a (column_small t.args.a 0))) (sbox_small row1 (rw b (column_small t.args.b 1)))
     (sbox_small row2 (rw c (column_small t.args.c 2))) (sbox_small row3 (rw d (column_small t.args.d 3)))
-    t.entry.ensures t.entry_row1.ensures t.entry_row2.ensures t.entry_row3.ensures
+    (omega arith, t.entry-4.ensures) (omega arith, t.entry.ensures) (omega arith, t.entry-2.ensures)
+    (omega arith, t.entry-3.ensures)
     ∙ ap (λ (v : List ℕ). xor_word (mix_column v) (column_of key))
     (four (ap sbox a) (ap sbox b) (ap sbox c) (ap sbox d))

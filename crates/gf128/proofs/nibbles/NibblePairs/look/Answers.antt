@@ -1,7 +1,7 @@
 use Rattle.std.proofs.Common.{List, ℕ, ap₂, bit_xor}
 use Rattle.octets.specs.Bytes.{le}
 use Rattle.gf128.proofs.Pairs.{places_ok32, high_place32, low_place32}
-use Rattle.gf128.proofs.LanePairs.{looked_halves, pair_of_halves, first_block, second_block}
+use Rattle.gf128.proofs.WordPairs.{looked_halves, pair_of_halves, first_block, second_block}
 use Rattle.gf128.proofs.LookUps.{looked_up_block}
 use Rattle.gf128.proofs.nibbles.NibblePairs.look.Goals as goal
 

@@ -13,9 +13,9 @@ returns c =
     let h : ℕ = bit_xor (le s.high.bytes) (le c.args.word.bytes) in
     let fold : ℕ → ℕ = λ (f : ℕ). bit_xor f (bit_xor (f / 2 ^ 1) (bit_xor (f / 2 ^ 2) (f / 2 ^ 7))) in
     let low : le c.xor-low.result.bytes ≡ total a b h % 2 ^ 128 =
-    c.xor-low.ensures ∙ ap (bit_xor a) c.lane_up-above.ensures ∙ sym (total_below a b h (le_block s.low.bytes s.low.is_block)) in
+    c.xor-low.ensures ∙ ap (bit_xor a) c.half_up-above.ensures ∙ sym (total_below a b h (le_block s.low.bytes s.low.is_block)) in
     let high : le c.xor-high.result.bytes ≡ total a b h / 2 ^ 128 =
-    c.xor-high.ensures ∙ ap₂ bit_xor c.lane_down-below.ensures c.xor-last.ensures
+    c.xor-high.ensures ∙ ap₂ bit_xor c.half_down-below.ensures c.xor-last.ensures
     ∙ sym (total_above a b h (le_block s.low.bytes s.low.is_block)) in
     c.xor.ensures ∙ ap₂ bit_xor high (c.folded-fold.ensures ∙ ap fold low)
     ∙ ap folded_wide (total_last a b (le s.high.bytes) (le c.args.word.bytes))

@@ -1,6 +1,6 @@
 use Rattle.std.proofs.Common.{◌-◌, arith}
 use Rattle.gf128.specs.Code.Words.{both}
-use Rattle.gf128.proofs.LanePairs.{both_lt}
+use Rattle.gf128.proofs.WordPairs.{both_lt}
 use Rattle.gf128.proofs.Moves.{total_low}
 use Rattle.gf128.proofs.placed.PlacedPairs.low.Goals as goal
 

@@ -18,9 +18,9 @@ fours-preserved g c = λ blocks own.
     let s : ℕ = le c.fours.total.bytes in
     let p : ℕ = le c.of_bytes-first.result.bytes in
     let is : IsFourProducts (bit_xor s p) (le c.of_bytes-b.result.bytes) (le c.of_bytes-c.result.bytes) (le c.of_bytes-d.result.bytes) k
-    (le c.times_lanes-total.result.bytes) = rw c.xor-a.ensures at c.times_lanes-total.ensures in
+    (le c.times_bytes-total.result.bytes) = rw c.xor-a.ensures at c.times_bytes-total.ensures in
     fours_more g.O.HashOrder.order k (of_word c.args.sum) c.args.fours.now blocks c.fours.four-index s p (le c.of_bytes-b.result.bytes)
-    (le c.of_bytes-c.result.bytes) (le c.of_bytes-d.result.bytes) (le c.times_lanes-total.result.bytes) own c.fours-test.true
+    (le c.of_bytes-c.result.bytes) (le c.of_bytes-d.result.bytes) (le c.times_bytes-total.result.bytes) own c.fours-test.true
     (ap (λ w. of_word (le w)) c.of_bytes-first.ensures ∙ c.word_bytes.ensures)
     (ap (λ w. of_word (le w)) c.of_bytes-b.ensures ∙ c.word_bytes-in-fours.ensures)
     (ap (λ w. of_word (le w)) c.of_bytes-c.ensures ∙ c.word_bytes-in-fours-2.ensures)

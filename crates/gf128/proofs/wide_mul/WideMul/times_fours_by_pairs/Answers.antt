@@ -11,11 +11,11 @@ pub fours-init : goal.fours-init
 unfolding sum_after
 fours-init g c = λ blocks own i. ap (λ (n : ℕ). coefficient (of_word n) i) c.of-total.ensures
 
-pub times_lanes_by_pairs-total-requires-clause-upper : goal.times_lanes_by_pairs-total-requires-clause-upper
-times_lanes_by_pairs-total-requires-clause-upper g c = c.of-upper.ensures
+pub times_bytes_by_pairs-total-requires-clause-upper : goal.times_bytes_by_pairs-total-requires-clause-upper
+times_bytes_by_pairs-total-requires-clause-upper g c = c.of-upper.ensures
 
-pub times_lanes_by_pairs-total-requires-clause-lower : goal.times_lanes_by_pairs-total-requires-clause-lower
-times_lanes_by_pairs-total-requires-clause-lower g c = c.of-lower.ensures
+pub times_bytes_by_pairs-total-requires-clause-lower : goal.times_bytes_by_pairs-total-requires-clause-lower
+times_bytes_by_pairs-total-requires-clause-lower g c = c.of-lower.ensures
 
 pub fours-preserved : goal.fours-preserved
 fours-preserved g c = λ blocks own.
@@ -24,9 +24,9 @@ fours-preserved g c = λ blocks own.
     let s : ℕ = le c.fours.total.bytes in
     let p : ℕ = le c.of_bytes-first.result.bytes in
     let is : IsFourProducts (bit_xor s p) (le c.of_bytes-b.result.bytes) (le c.of_bytes-c.result.bytes) (le c.of_bytes-d.result.bytes) k
-    (le c.times_lanes_by_pairs-total.result.bytes) = rw c.xor-a.ensures at c.times_lanes_by_pairs-total.ensures in
+    (le c.times_bytes_by_pairs-total.result.bytes) = rw c.xor-a.ensures at c.times_bytes_by_pairs-total.ensures in
     fours_more g.O.HashOrder.order k (of_word c.args.sum) c.args.fours.now blocks c.fours.run-index s p (le c.of_bytes-b.result.bytes)
-    (le c.of_bytes-c.result.bytes) (le c.of_bytes-d.result.bytes) (le c.times_lanes_by_pairs-total.result.bytes) own c.fours-test.true
+    (le c.of_bytes-c.result.bytes) (le c.of_bytes-d.result.bytes) (le c.times_bytes_by_pairs-total.result.bytes) own c.fours-test.true
     (ap (λ w. of_word (le w)) c.of_bytes-first.ensures ∙ c.word_bytes.ensures)
     (ap (λ w. of_word (le w)) c.of_bytes-b.ensures ∙ c.word_bytes-in-fours.ensures)
     (ap (λ w. of_word (le w)) c.of_bytes-c.ensures ∙ c.word_bytes-in-fours-2.ensures)

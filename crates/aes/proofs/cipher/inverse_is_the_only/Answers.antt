@@ -1,5 +1,0 @@
-use Rattle.aes.proofs.Tables.{inverse_law}
-use Rattle.aes.proofs.cipher.inverse_is_the_only.Goals as goal
-
-pub returns : goal.returns
-returns c = inverse_law

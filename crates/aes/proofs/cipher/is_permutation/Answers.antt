@@ -1,5 +1,0 @@
-use Rattle.aes.proofs.Permutation as permutation
-use Rattle.aes.proofs.cipher.is_permutation.Goals as goal
-
-pub returns : goal.returns
-returns c = permutation.is_permutation

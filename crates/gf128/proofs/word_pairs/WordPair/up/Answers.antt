@@ -1,0 +1,10 @@
+use Rattle.gf128.proofs.WordPairs.{digits_pair, up_pair}
+use Rattle.gf128.proofs.word_pairs.WordPair.up.Goals as goal
+
+pub invariant_of-result : goal.invariant_of-result
+invariant_of-result c = record { is_pair = digits_pair _ }
+
+pub returns : goal.returns
+returns c =
+    let a = c.args.self in
+    up_pair c.args.count a.bytes a.is_pair
