@@ -12,7 +12,7 @@ program=$(realpath "$1")
 cd "$(dirname "$0")"
 room=$(mktemp -d)
 trap 'rm -rf "$room"' EXIT
-cc -O2 -Wall -Wextra -shared -fPIC -o "$room/refuse.so" refuse.c -ldl
+cc -O2 -Wall -Wextra -shared -fPIC -o "$room/refuse.so" refuse.c
 printf 'hello' > "$room/in"
 key=000102030405060708090a0b0c0d0e0f
 nonce=000102030405060708090a0b
