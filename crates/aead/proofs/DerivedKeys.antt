@@ -1,19 +1,9 @@
 -- The encryption keys of GCM-SIV, part by part.
-use Rattle.std.proofs.Common.{◌≡◌, ℕ, ◌+◌, ◌/◌, List, ◌++◌, drop, length, flat_map, sym, ap, ap₂, ◌∙◌, arith}
+use Rattle.std.proofs.Common.{◌≡◌, ℕ, ◌+◌, ◌/◌, List, ◌++◌, length, flat_map, sym, ap, ◌∙◌}
 use Rattle.std.proofs.Common.{append_assoc}
-use Rattle.std.proofs.lemmas.List.{take_at, drop_at, drop_all, append-nil}
+use Rattle.std.proofs.lemmas.List.{append-nil}
 use Rattle.std.specs.List.{range_with_len}
 use Rattle.aead.specs.Sealing.{key_part, encryption_key}
-use borrow.Rule.Slice.PartMut.{put_mid}
-
--- if the first n bytes are a, writing b over the others gives a and then b
-pub two_parts : (n m : ℕ) (x z y a b : List ℕ) → x ≡ a → y ≡ b → length a ≡ n → length z ≡ m
-    → put_mid n m (x ++ z) y ≡ a ++ b
-two_parts n m x z y a b e f long rest =
-    let l : length x ≡ n = ap length e ∙ long in
-    ap₂ (λ u v. u ++ (y ++ v)) (take_at x z n l ∙ e)
-    (ap (drop m) (drop_at x z n l) ∙ drop_all m z (omega arith))
-    ∙ ap (λ v. a ++ v) (append-nil y ∙ f)
 
 -- the encryption key for a key of 16 bytes consists of parts 2 and 3
 pub short_key : (key nonce : List ℕ) → length key ≡ 16

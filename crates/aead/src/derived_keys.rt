@@ -14,19 +14,7 @@ use crate::pieces::pass_state::PassState;
 use crate::suite::Suite;
 use aes::AesKey;
 use gf128::{Keyed128, PolyvalOrder, TableMul, reversed_mul_x};
-use octets::{Block, Nonce};
-
-// Returns two arrays of one length, joined.
-pub(crate) fn joined<const N: usize, const T: usize>(first: &[u8; N], second: &[u8; N]) -> [u8; T]
-    requires { T ≡ N + N }
-    ensures { result ≡ first.now ++ second.now }
-{
-    let mut both = [0; T];
-    let bytes = &mut both[..];
-    bytes[..N].copy_from_slice(first);
-    bytes[N..].copy_from_slice(second);
-    both
-}
+use octets::{Block, Nonce, joined};
 
 // Returns the first half of block `q` of concatenated blocks.
 fn first_half(blocks: &[u8], q: usize) -> [u8; 8]

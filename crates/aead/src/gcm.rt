@@ -12,12 +12,11 @@ ghost use Rattle.aead.specs.Ciphers.{Keyed, setting};
 ghost use Rattle.aead.specs.InPlace.{OpensInPlace};
 
 use crate::aead::Aead;
-use crate::derived_keys::joined;
 use crate::one_pass::{OnePass, open_whole, seal_whole};
 use crate::suite::Suite;
 use aes::{AesKey, CtrBe};
 use gf128::{Ghash, Keyed128, Multiply, TableMul, WideMul};
-use octets::{Block, Fault, Nonce, Tag, xored};
+use octets::{Block, Fault, Nonce, Tag, joined, xored};
 use std::marker::Model;
 
 /// AES-GCM under a key of 16, 24 or 32 bytes (SP 800-38D). Opening in place authenticates before it

@@ -18,13 +18,13 @@ ghost use Rattle.aead.specs.Code.States.{MadeByCounter, digest_over};
 
 use crate::aead::Aead;
 use crate::authenticator::Authenticator;
-use crate::derived_keys::{DerivedKeys, joined};
+use crate::derived_keys::DerivedKeys;
 use crate::mask::MaskStream;
 use crate::step::step;
 use crate::suite::Suite;
 use aes::{AesKey, CtrLe};
 use gf128::{Keyed128, Polyval, TableMul};
-use octets::{Block, Fault, Nonce, Order, Tag, same, xor_into};
+use octets::{Block, Fault, Nonce, Order, Tag, joined, same, xor_into};
 use std::marker::Model;
 
 /// AES-GCM-SIV under a key of 16 or 32 bytes (RFC 8452). Opening in place decrypts before it can

@@ -10,10 +10,9 @@ ghost use Rattle.aead.specs.Sealing.{Setting, Fits};
 ghost use Rattle.aead.specs.PassStates.{IsMessageSecret, IsSumOf};
 ghost use Rattle.aead.specs.Code.States.{HeldByPoly, HeldByBlocks, block_key, digest_over};
 
-use crate::derived_keys::joined;
 use crate::rule::Rule;
 use gf128::{BlockHash, Multiply};
-use octets::{Block, Order, Stream};
+use octets::{Block, Order, Stream, joined};
 use poly1305::Poly;
 use std::marker::PhantomData;
 

@@ -11,12 +11,11 @@ ghost use Rattle.aead.specs.PassStates.{IsMessageSecret, IsSumOf};
 ghost use Rattle.aead.specs.Code.States.{block_key, first_counter, digest_over};
 ghost use Rattle.aead.specs.Code.Rules.{gcm_serves, gcm_sums, gcm_is_sum, siv_serves, siv_sums, siv_is_sum};
 
-use crate::derived_keys::joined;
 use crate::mask::MaskCount;
 use crate::{gcm, gcm_siv};
 use aes::{FirstFour, LastFour};
 use gf128::{GhashOrder, HashOrder, PolyvalOrder};
-use octets::{Block, Nonce, be_pair};
+use octets::{Block, Nonce, be_pair, joined};
 
 // What the two constructions with AES do not share.
 pub(crate) trait Rule: HashOrder {

@@ -40,6 +40,7 @@ impl InverseKey {
     }
 
     /// Returns the block of 16 bytes that the cipher takes to `block`; it is the only one (FIPS 197, 5.3.5).
+    #[inline(always)]
     pub fn decrypt(&self, block: &Block) -> Block
         ensures value { (key : List ℕ) → IsInverse self.now key → IsPreimage key block.now result }
         ensures is_block { IsBlock result }

@@ -212,6 +212,7 @@ impl AesKey {
     }
 
     /// Returns the block of 16 bytes that the cipher takes `block` to, as `encrypt` does (FIPS 197, 5.1).
+    #[inline(always)]
     pub fn encrypt_in_registers(&self, block: &Block) -> Block
         ensures value { result ≡ cipher self.now block.now }
         ensures is_block { IsBlock result }

@@ -1,10 +1,9 @@
 -- The checks of an unwrapped register, on the numbers that its bytes spell.
-use Rattle.std.proofs.Common.{◌≡◌, ℕ, zero, suc, ◌+◌, ◌-◌, ◌*◌, ◌/◌, ◌%◌, ◌^◌, ◌<◌, ◌≤◌, ◌↔◌, List, [], ◌∷◌, ◌++◌, take}
+use Rattle.std.proofs.Common.{◌≡◌, ℕ, ◌+◌, ◌-◌, ◌*◌, ◌/◌, ◌%◌, ◌^◌, ◌<◌, ◌≤◌, ◌↔◌, List, [], ◌∷◌, take}
 use Rattle.std.proofs.Common.{drop, length, replicate, refl, sym, ap, ap₂, ◌∙◌, subst, arith, length-drop}
 use Rattle.std.proofs.Math.Nat.{mul_comm}
 use Rattle.std.proofs.Math.Seq.{drop-drop}
 use Rattle.std.proofs.lemmas.Nat.{div-mul-add, shr-shr, be_bytes_4, be_bytes_8}
-use Rattle.std.proofs.lemmas.List.{length-take-le}
 use Rattle.std.specs.Int.{w32, w64, from_be_bytes, from_le_bytes, to_be_bytes}
 use Rattle.octets.specs.Bytes.{AreBytes, le}
 use Rattle.octets.proofs.Numbers.{le_is, le_split, le_small, le_zeros, power_of_bytes}

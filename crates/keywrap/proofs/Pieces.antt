@@ -1,8 +1,11 @@
 -- Parts of a register.
-use Rattle.std.proofs.Common.{◌≡◌, ℕ, ◌+◌, ◌≤◌, List, ◌++◌, take, drop, length, sym, ap, ap₂, ◌∙◌, arith}
+use Rattle.std.proofs.Common.{◌≡◌, ℕ, ◌+◌, ◌-◌, ◌≤◌, List, ◌++◌, take, drop, length, sym, ap, ap₂, ◌∙◌, arith}
 use Rattle.std.proofs.Common.{append_assoc, length-append, length-drop, take_all}
 use Rattle.std.proofs.lemmas.List.{take_at, drop_at, drop_all, append-nil, take-append-drop, length-take-le}
 use Rattle.std.specs.Int.{bytes_high_first}
+use Rattle.std.specs.List.{range_with_len}
+use Rattle.std.proofs.lemmas.Simd.{pick_l-range_with_len}
+use lib.Lanes.{pick_l}
 use Rattle.aes.specs.Cipher.{cipher}
 use Rattle.octets.specs.Bytes.{xor_bytes}
 use Rattle.octets.proofs.Xors.{length-xor_bytes}
@@ -11,14 +14,38 @@ use Rattle.keywrap.proofs.Bytes.{length_number, xor_twice}
 use Rattle.keywrap.specs.Code.Places.{register}
 use borrow.Rule.Slice.PartMut.{put_mid}
 
--- a block written in two halves
-pub halves : (x z y a b : List ℕ) → x ≡ a → y ≡ b → length a ≡ 8 → length z ≡ 8
-    → put_mid 8 8 (x ++ z) y ≡ a ++ b
-halves x z y a b e f long rest =
-    let l : length x ≡ 8 = ap length e ∙ long in
-    ap₂ (λ u v. u ++ (y ++ v)) (take_at x z 8 l ∙ e)
-    (ap (drop 8) (drop_at x z 8 l) ∙ drop_all 8 z (omega arith))
-    ∙ ap (λ v. a ++ v) (append-nil y ∙ f)
+-- two vectors of eight bytes, one after the other
+pub joined_is : (x y : List ℕ) → length x ≡ 8 → length y ≡ 8 → pick_l 0 (x ++ y) (range_with_len 0 16) ≡ x ++ y
+joined_is x y hx hy =
+    let long : length (x ++ y) ≡ 16 = omega (arith, length-append x y) in
+    pick_l-range_with_len 0 (x ++ y) 0 16 (omega arith) ∙ take_all 16 (x ++ y) (omega arith)
+
+-- a vector of sixteen bytes twice is its first half, its second half, and the vector
+twice_is : (x : List ℕ) → x ++ x ≡ take 8 x ++ (drop 8 x ++ x)
+twice_is x = ap (λ y. y ++ x) (sym (take-append-drop 8 x)) ∙ append_assoc (take 8 x) (drop 8 x) x
+
+-- the first half of a vector of sixteen bytes
+pub first_is : (x : List ℕ) → length x ≡ 16 → pick_l 0 (x ++ x) (range_with_len 0 8) ≡ take 8 x
+first_is x long =
+    let all : length (x ++ x) ≡ 32 = omega (arith, length-append x x) in
+    let half : length (take 8 x) ≡ 8 = length-take-le 8 x (omega arith) in
+    pick_l-range_with_len 0 (x ++ x) 0 8 (omega arith) ∙ ap (take 8) (twice_is x)
+    ∙ take_at (take 8 x) (drop 8 x ++ x) 8 half
+
+-- the second half of a vector of sixteen bytes
+pub second_is : (x : List ℕ) → length x ≡ 16 → pick_l 0 (x ++ x) (range_with_len 8 8) ≡ drop 8 x
+second_is x long =
+    let all : length (x ++ x) ≡ 32 = omega (arith, length-append x x) in
+    let half : length (take 8 x) ≡ 8 = length-take-le 8 x (omega arith) in
+    let rest : length (drop 8 x) ≡ 8 = omega (arith, length-drop 8 x) in
+    pick_l-range_with_len 0 (x ++ x) 8 8 (omega arith) ∙ ap (λ y. take 8 (drop 8 y)) (twice_is x)
+    ∙ ap (take 8) (drop_at (take 8 x) (drop 8 x ++ x) 8 half) ∙ take_at (drop 8 x) x 8 rest
+
+-- a vector that is read at p
+pub read_at : (p : ℕ) (s : List ℕ) → p + 8 ≤ length s → take 8 (take (p + 8 - p) (drop p s)) ≡ take (p + 8 - p) (drop p s)
+read_at p s h =
+    let some : p + 8 - p ≤ length (drop p s) = omega (arith, length-drop p s) in
+    take_all 8 (take (p + 8 - p) (drop p s)) (omega (arith, length-take-le (p + 8 - p) (drop p s) some))
 
 -- a list is its first p items, the next eight, and the rest
 pub cut : (p : ℕ) (s : List ℕ) → s ≡ take p s ++ (take 8 (drop p s) ++ drop 8 (drop p s))

@@ -13,6 +13,8 @@ use crate::steps::{first_eight, halves, is_valid, join_halves, unwrap_blocks, wr
 use aes::AesKey;
 use octets::{Block, Fault};
 use std::alloc::{AllocError, Allocator};
+use std::simd::prelude::*;
+use std::simd::u8x8;
 
 // The constant of the alternative initial value as a number, the first byte most significant (RFC 5649, 3).
 const CONSTANT: u32 = 0xa659_59a6;
@@ -50,10 +52,10 @@ fn decrypt_register(key: &AesKey, first: &mut [u8; 8], blocks: &mut [u8])
     ensures rest { AreBytes (length blocks.new) blocks.new }
 {
     if blocks.len() == 8 {
-        let block = Block::new(join_halves(first, blocks));
+        let block = Block::new(join_halves(u8x8::from_array(*first), u8x8::from_slice(blocks)));
         let (half, second) = halves(key.inverse().decrypt(&block).bytes());
-        *first = half;
-        blocks.copy_from_slice(&second);
+        *first = half.to_array();
+        blocks.copy_from_slice(&second.to_array());
     } else {
         unwrap_blocks(key, first, blocks);
     }

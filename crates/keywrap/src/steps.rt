@@ -1,4 +1,5 @@
-//! The steps of wrapping and unwrapping by index (RFC 3394, 2.2.1 and 2.2.2), from any first value of A.
+//! The steps of wrapping and unwrapping by index (RFC 3394, 2.2.1 and 2.2.2), from any first value of A. From step to step A is half
+//! a vector: in memory, each step would wait until the one before has stored it.
 
 ghost use Rattle.std.specs.Prelude.{◌≡◌, ℕ, List, ◌+◌, ◌-◌, ◌*◌, ◌/◌, ◌%◌, ◌≤◌, ◌++◌, ◌↔◌, take, drop};
 ghost use Rattle.std.specs.Prelude.{length, IsTrue};
@@ -10,7 +11,9 @@ ghost use Rattle.keywrap.specs.Wrapping.{step, steps, initial_value, HasWrappedL
 ghost use Rattle.keywrap.specs.Code.Places.{register};
 
 use aes::{AesKey, InverseKey};
-use octets::{Block, xor_into};
+use octets::Block;
+use std::simd::prelude::*;
+use std::simd::{u8x8, u8x16};
 
 // The default initial value (RFC 3394, 2.2.3.1). No caller here needs another one.
 pub(crate) const INITIAL_VALUE: [u8; 8] = [0xa6; 8];
@@ -52,62 +55,69 @@ pub(crate) fn first_eight(bytes: &[u8]) -> [u8; 8]
 }
 
 // The XOR of half a block with the number of a step.
-fn xor_number(half: &[u8; 8], t: u64) -> [u8; 8]
-    ensures { result ≡ xor_bytes half.now (bytes_high_first 8 t) }
+#[inline(always)]
+fn xor_number(half: u8x8, t: u64) -> u8x8
+    ensures { result ≡ xor_bytes half (bytes_high_first 8 t) }
 {
-    let mut sum = *half;
-    xor_into(&mut sum, &t.to_be_bytes());
-    sum
+    half ^ u8x8::from_array(t.to_be_bytes())
 }
 
 // The block with these two halves.
-pub(crate) fn join_halves(first: &[u8; 8], second: &[u8]) -> [u8; 16]
-    requires { length second.now ≡ 8 }
-    ensures { result ≡ first.now ++ second.now }
+#[inline(always)]
+pub(crate) fn join_halves(first: u8x8, second: u8x8) -> [u8; 16]
+    ensures { result ≡ first ++ second }
 {
-    let mut block = [0; 16];
-    block[..8].copy_from_slice(first);
-    block[8..].copy_from_slice(second);
-    block
+    first
+        .shuffle(
+            second,
+            [0, 1, 2, 3, 4, 5, 6, 7, 8, 9, 10, 11, 12, 13, 14, 15],
+        )
+        .to_array()
 }
 
 // The two halves of a block.
-pub(crate) fn halves(block: &[u8; 16]) -> ([u8; 8], [u8; 8])
+#[inline(always)]
+pub(crate) fn halves(block: &[u8; 16]) -> (u8x8, u8x8)
     ensures first { result.0 ≡ take 8 block.now }
     ensures second { result.1 ≡ drop 8 block.now }
     ensures long { length block.now ≡ 16 }
 {
-    let mut first = [0; 8];
-    let mut second = [0; 8];
-    first.copy_from_slice(&block[..8]);
-    second.copy_from_slice(&block[8..]);
-    (first, second)
+    let bytes = u8x16::from_array(*block);
+    (
+        bytes.swizzle([0, 1, 2, 3, 4, 5, 6, 7]),
+        bytes.swizzle([8, 9, 10, 11, 12, 13, 14, 15]),
+    )
 }
 
-// Step t, on the block at `place`.
-fn wrap_step(key: &AesKey, t: u64, place: usize, first: &mut [u8; 8], blocks: &mut [u8])
+// A after step t, which also changes the block at `place`.
+#[inline(always)]
+fn wrap_step(key: &AesKey, t: u64, place: usize, first: u8x8, blocks: &mut [u8]) -> u8x8
     requires { place + 8 ≤ length blocks.old }
-    ensures { register (place + 8) first.new blocks.new
-        ≡ step key.now t (register place first.old blocks.old) }
+    ensures { register (place + 8) result blocks.new
+        ≡ step key.now t (register place first blocks.old) }
 {
-    let block = join_halves(first, &blocks[place..place + 8]);
+    let block = join_halves(first, u8x8::from_slice(&blocks[place..place + 8]));
     let (half, second) = halves(key.encrypt_in_registers(&Block::new(block)).bytes());
-    *first = xor_number(&half, t);
-    blocks[place..place + 8].copy_from_slice(&second);
+    blocks[place..place + 8].copy_from_slice(&second.to_array());
+    xor_number(half, t)
 }
 
-// Undoes step t, on the block at `place`.
-fn unwrap_step(inverse: &InverseKey, t: u64, place: usize, first: &mut [u8; 8], blocks: &mut [u8])
+// A before step t, which is undone at the block at `place`.
+#[inline(always)]
+fn unwrap_step(inverse: &InverseKey, t: u64, place: usize, first: u8x8, blocks: &mut [u8]) -> u8x8
     requires { place + 8 ≤ length blocks.old }
     ensures step { (key : List ℕ) → IsInverse inverse.now key
-        → step key t (register place first.new blocks.new) ≡ register (place + 8) first.old blocks.old }
-    ensures first { AreBytes (length first.new) first.new }
+        → step key t (register place result blocks.new) ≡ register (place + 8) first blocks.old }
+    ensures first { AreBytes (length result) result }
     ensures rest { AreBytes (length blocks.new) blocks.new }
 {
-    let block = join_halves(&xor_number(first, t), &blocks[place..place + 8]);
+    let block = join_halves(
+        xor_number(first, t),
+        u8x8::from_slice(&blocks[place..place + 8]),
+    );
     let (half, second) = halves(inverse.decrypt(&Block::new(block)).bytes());
-    *first = half;
-    blocks[place..place + 8].copy_from_slice(&second);
+    blocks[place..place + 8].copy_from_slice(&second.to_array());
+    half
 }
 
 // Does the steps of all six rounds.
@@ -117,11 +127,13 @@ pub(crate) fn wrap_blocks(key: &AesKey, first: &mut [u8; 8], blocks: &mut [u8])
         ≡ steps key.now (6 * (length blocks.old / 8)) (first.old ++ blocks.old) }
 {
     let count = blocks.len() / 8;
+    let mut a = u8x8::from_array(*first);
     'rounds: for round in 0..6 {
         'places: for i in 0..count {
-            wrap_step(key, (count * round + i + 1) as u64, 8 * i, first, blocks);
+            a = wrap_step(key, (count * round + i + 1) as u64, 8 * i, a, blocks);
         }
     }
+    *first = a.to_array();
 }
 
 // Undoes the steps of all six rounds, the last one first.
@@ -135,11 +147,13 @@ pub(crate) fn unwrap_blocks(key: &AesKey, first: &mut [u8; 8], blocks: &mut [u8]
 {
     let ready = key.inverse();
     let count = blocks.len() / 8;
+    let mut a = u8x8::from_array(*first);
     'rounds: for round in (0..6).rev() {
         'places: for i in (0..count).rev() {
-            unwrap_step(&ready, (count * round + i + 1) as u64, 8 * i, first, blocks);
+            a = unwrap_step(&ready, (count * round + i + 1) as u64, 8 * i, a, blocks);
         }
     }
+    *first = a.to_array();
 }
 
 // Does the steps of all six rounds on a register in one slice, A first.

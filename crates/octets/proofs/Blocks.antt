@@ -1,10 +1,11 @@
--- The blocks of a text as it grows.
+-- The blocks of a text as it grows, and bytes that are joined.
 use Rattle.std.proofs.Common.{◌≡◌, ℕ, zero, suc, ◌+◌, ◌*◌, ◌/◌, ◌%◌, ◌<◌, ◌≤◌, List, [], ◌++◌, length, take}
-use Rattle.std.proofs.Common.{drop, get_or, refl, ap, ◌∙◌, arith, length-drop}
-use Rattle.std.proofs.lemmas.List.{take-append-le, drop-append-le, drop-drop}
+use Rattle.std.proofs.Common.{drop, get_or, refl, ap, ap₂, ◌∙◌, arith, length-drop}
+use Rattle.std.proofs.lemmas.List.{take-append-le, drop-append-le, drop-drop, take_at, drop_at, drop_all, append-nil}
 use Rattle.std.proofs.Math.Seq.{drop-append-add}
 use Rattle.std.specs.Simd.{first_chunks}
 use Rattle.octets.specs.Bytes.{block_at}
+use borrow.Rule.Slice.PartMut.{put_mid}
 
 -- a whole block of a text is also that block of a longer text
 pub block_at-append : (m x : List ℕ) (i : ℕ) → (i + 1) * 16 ≤ length m → block_at (m ++ x) i ≡ block_at m i
@@ -28,3 +29,12 @@ chunk_at n (suc k) (suc i) xs h =
     let e : n + i * n ≡ suc i * n = omega arith in
     chunk_at n k i (drop n xs) (omega arith) ∙ ap (take n) (drop-drop (i * n) n xs)
     ∙ ap (λ (j : ℕ). take n (drop j xs)) e
+
+-- if the first n bytes are a, writing b over the others gives a and then b
+pub two_parts : (n m : ℕ) (x z y a b : List ℕ) → x ≡ a → y ≡ b → length a ≡ n → length z ≡ m
+    → put_mid n m (x ++ z) y ≡ a ++ b
+two_parts n m x z y a b e f long rest =
+    let l : length x ≡ n = ap length e ∙ long in
+    ap₂ (λ u v. u ++ (y ++ v)) (take_at x z n l ∙ e)
+    (ap (drop m) (drop_at x z n l) ∙ drop_all m z (omega arith))
+    ∙ ap (λ v. a ++ v) (append-nil y ∙ f)

@@ -1,7 +1,7 @@
-//! Numbers and their bytes, in both orders, for the length blocks of RFC 8439, SP 800-38D and RFC 8452. The bytes are made as
-//! one vector: of `to_le_bytes` LLVM makes a shift for each byte.
+//! Numbers and their bytes, in both orders, for the length blocks of RFC 8439, SP 800-38D and RFC 8452; two arrays joined. The
+//! bytes of a number are made as one vector: of `to_le_bytes` LLVM makes a shift for each byte.
 
-ghost use Rattle.std.specs.Prelude.{◌≡◌, ◌++◌, ◌-◌, ◌<◌, ◌^◌, length, replicate};
+ghost use Rattle.std.specs.Prelude.{◌≡◌, ◌++◌, ◌+◌, ◌-◌, ◌<◌, ◌^◌, length, replicate};
 ghost use Rattle.octets.specs.Bytes.{le};
 ghost use Rattle.std.specs.Int.{w64, w128, to_le_bytes, to_be_bytes};
 
@@ -48,6 +48,18 @@ pub fn be_pair(first: u64, second: u64) -> [u8; 16]
     ensures { result ≡ to_be_bytes w64 first ++ to_be_bytes w64 second }
 {
     lanes_of_two(second, first).reverse().to_array()
+}
+
+/// Returns two arrays of one length, joined.
+pub fn joined<const N: usize, const T: usize>(first: &[u8; N], second: &[u8; N]) -> [u8; T]
+    requires { T ≡ N + N }
+    ensures { result ≡ first.now ++ second.now }
+{
+    let mut both = [0; T];
+    let bytes = &mut both[..];
+    bytes[..N].copy_from_slice(first);
+    bytes[N..].copy_from_slice(second);
+    both
 }
 
 // The number that at most 3 bytes spell, the least significant byte first.

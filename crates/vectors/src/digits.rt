@@ -28,8 +28,8 @@ impl<'a> Digits<'a> {
     ghost use Rattle.vectors.specs.Faults.{bytes_of};
     ghost use Rattle.vectors.specs.Code.Views.{bytes_in};
 
-    /// Returns the value as digits, or `None` if it is not an even number of hexadecimal digits.
-    pub fn of(value: &'a [u8]) -> Option<Digits<'a>>
+    // Returns the value as digits, or `None` if it is not an even number of hexadecimal digits.
+    pub(crate) fn of(value: &'a [u8]) -> Option<Digits<'a>>
         ensures { MatchOption result (is_hex value.entry.now ≡ false)
             (λ d. (is_hex value.entry.now ≡ true) × (bytes_in d ≡ bytes_of value.entry.now)) }
     {
@@ -40,24 +40,24 @@ impl<'a> Digits<'a> {
         }
     }
 
-    /// Returns an empty list of digits.
-    pub fn none() -> Digits<'a>
+    // Returns an empty list of digits.
+    pub(crate) fn none() -> Digits<'a>
         ensures { bytes_in result ≡ [] }
     {
         Digits { text: &[] }
     }
 
-    /// Returns the number of bytes.
+    // Returns the number of bytes.
     #[tactic(auto, using(crate::proofs::DigitLemmas::digits_length))]
-    pub fn byte_count(self) -> usize
+    pub(crate) fn byte_count(self) -> usize
         ensures { result ≡ length (bytes_in self.entry) }
     {
         self.text.len() / 2
     }
 
-    /// Splits the digits after the first `count` bytes.
+    // Splits the digits after the first `count` bytes.
     #[tactic(auto, using(crate::proofs::DigitLemmas::digits_length))]
-    pub fn split_at(self, count: usize) -> (Digits<'a>, Digits<'a>)
+    pub(crate) fn split_at(self, count: usize) -> (Digits<'a>, Digits<'a>)
         requires { count ≤ length (bytes_in self) }
         ensures front { bytes_in result.0 ≡ take count (bytes_in self.entry) }
         ensures back { bytes_in result.1 ≡ drop count (bytes_in self.entry) }
@@ -75,8 +75,8 @@ impl<'a> Digits<'a> {
         digit_value(self.text[2 * i]) * 16 + digit_value(self.text[2 * i + 1])
     }
 
-    /// Returns true if the digits spell these bytes.
-    pub fn spell(self, bytes: &[u8]) -> bool
+    // Returns true if the digits spell these bytes.
+    pub(crate) fn spell(self, bytes: &[u8]) -> bool
         ensures { IsTrue result ↔ (bytes_in self.entry ≡ bytes.now) }
     {
         if bytes.len() != self.byte_count() {
@@ -90,8 +90,8 @@ impl<'a> Digits<'a> {
         same
     }
 
-    /// Writes the bytes into a slice of the same length.
-    pub fn write(self, room: &mut [u8])
+    // Writes the bytes into a slice of the same length.
+    pub(crate) fn write(self, room: &mut [u8])
         requires { length room.old ≡ length (bytes_in self) }
         ensures { room.new ≡ bytes_in self.entry }
     {
@@ -100,8 +100,8 @@ impl<'a> Digits<'a> {
         }
     }
 
-    /// Returns the bytes in a new vector.
-    pub fn bytes<A: Allocator>(self, alloc: A) -> Result<Vec<u8, A>, AllocError>
+    // Returns the bytes in a new vector.
+    pub(crate) fn bytes<A: Allocator>(self, alloc: A) -> Result<Vec<u8, A>, AllocError>
         ensures { IfOk result (λ bytes. bytes.items ≡ bytes_in self.entry) }
     {
         let mut bytes = vec![in alloc; 0u8; self.byte_count()]?;

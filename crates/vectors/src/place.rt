@@ -17,12 +17,12 @@ use crate::suite::{Algorithm, Field, Format};
 // A record as the file writes it, or the part of it that was read so far.
 #[derive(Clone, Copy)]
 pub(crate) struct Entry<'a> {
-    pub suite: Algorithm,
-    pub key: Digits<'a>,
-    pub nonce: Digits<'a>,
-    pub aad: Digits<'a>,
-    pub sealed: Digits<'a>,
-    pub text: Option<Digits<'a>>,
+    pub(crate) suite: Algorithm,
+    pub(crate) key: Digits<'a>,
+    pub(crate) nonce: Digits<'a>,
+    pub(crate) aad: Digits<'a>,
+    pub(crate) sealed: Digits<'a>,
+    pub(crate) text: Option<Digits<'a>>,
 }
 
 impl<'a> Entry<'a> {
@@ -82,10 +82,10 @@ pub(crate) enum Place<'a> {
 
 // The place after a line, and the record that the line ends, if it ends one.
 pub(crate) struct Next<'a> {
-    /// The place after the line.
-    pub place: Place<'a>,
-    /// The record that the line ends.
-    pub ended: Option<Entry<'a>>,
+    // The place after the line.
+    pub(crate) place: Place<'a>,
+    // The record that the line ends.
+    pub(crate) ended: Option<Entry<'a>>,
 }
 
 impl<'a> Next<'a> {

@@ -72,8 +72,8 @@ impl Format {
         }
     }
 
-    /// The format with this name.
-    pub fn named(name: &[u8]) -> Option<Format>
+    // The format with this name.
+    pub(crate) fn named(name: &[u8]) -> Option<Format>
         ensures { result ≡ format_named name.now }
     {
         if name == b"1".as_slice() {
@@ -87,8 +87,8 @@ impl Format {
 }
 
 impl Field {
-    /// The name on its line.
-    pub fn name(self) -> &'static [u8]
+    // The name on its line.
+    pub(crate) fn name(self) -> &'static [u8]
         ensures { result.now ≡ field_name self }
     {
         match self {
@@ -121,9 +121,9 @@ fn first_named(suites: &[Algorithm], name: &[u8]) -> Option<Algorithm>
 }
 
 impl Algorithm {
-    /// The suite of a format with this name.
+    // The suite of a format with this name.
     #[tactic(auto, unfolding(crate::specs::Suites::suite_named))]
-    pub fn named(format: Format, name: &[u8]) -> Option<Algorithm>
+    pub(crate) fn named(format: Format, name: &[u8]) -> Option<Algorithm>
         ensures { result ≡ suite_named format name.now }
     {
         first_named(format.suites(), name)
@@ -161,15 +161,15 @@ impl Algorithm {
         }
     }
 
-    /// Whether the suite is for authenticated encryption.
-    pub fn is_aead(self) -> bool
+    // Whether the suite is for authenticated encryption.
+    pub(crate) fn is_aead(self) -> bool
         ensures { result ≡ is_aead self }
     {
         matches!(self, Algorithm::Aead(_))
     }
 
-    /// The fields of a record, in the order of their lines.
-    pub fn fields(self) -> &'static [Field]
+    // The fields of a record, in the order of their lines.
+    pub(crate) fn fields(self) -> &'static [Field]
         ensures { result.now ≡ fields_of self }
     {
         match self {
@@ -178,8 +178,8 @@ impl Algorithm {
         }
     }
 
-    /// Returns the length of a field in bytes, or `None` if it may have any length.
-    pub fn field_length(self, field: Field) -> Option<usize>
+    // Returns the length of a field in bytes, or `None` if it may have any length.
+    pub(crate) fn field_length(self, field: Field) -> Option<usize>
         ensures { result ≡ field_length self field }
     {
         match field {

@@ -1,5 +1,5 @@
 use Rattle.std.proofs.Common.{◌∷◌, [], refl, ◌∙◌, rules}
-use Rattle.aead.proofs.DerivedKeys.{two_parts}
+use Rattle.octets.proofs.Blocks.{two_parts}
 use Rattle.aead.proofs.gcm.nonce_and_counter.Goals as goal
 
 pub returns-clause-value : goal.returns-clause-value

@@ -1,4 +1,4 @@
-use Rattle.std.proofs.Common.{◌≡◌, ◌∙◌, take, ap, arith}
+use Rattle.std.proofs.Common.{◌∙◌, take, ap, arith}
 use Rattle.std.specs.Int.{w32, from_be_bytes}
 use Rattle.keywrap.proofs.Bytes.{bytes_take}
 use Rattle.keywrap.proofs.Checks.{is_constant}

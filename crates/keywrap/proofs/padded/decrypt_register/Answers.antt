@@ -2,7 +2,7 @@ use Rattle.std.proofs.Common.{◌≡◌, ◌≢◌, ◌+◌, ◌-◌, ◌*◌, �
 use Rattle.std.proofs.Common.{◌<◌, take, get_or, subst}
 use Rattle.octets.specs.Bytes.{AreBytes}
 use Rattle.keywrap.proofs.Bytes.{bytes_take}
-use Rattle.std.proofs.Common.{length-append}
+use Rattle.std.proofs.Common.{length-append, take_all}
 use Rattle.std.proofs.lemmas.List.{take-append-drop}
 use Rattle.aes.specs.Cipher.{cipher}
 use Rattle.keywrap.specs.Wrapping.{steps}
@@ -19,7 +19,7 @@ returns-then-blocks-eq8-clause-undone c =
     (ap length both ∙ c.halves.ensures.long)
     ∙ ap (cipher c.args.key.now) (both ∙ c.bytes.ensures.value)
     ∙ (c.decrypt.ensures.value c.args.key.now c.inverse.ensures).taken ∙ c.new-block.ensures.value
-    ∙ c.join_halves.ensures
+    ∙ c.join_halves.ensures ∙ ap (λ r. c.args.first.now ++ r) (take_all 8 c.args.blocks.now (omega arith))
 
 pub returns-else-blocks-eq8-clause-undone : goal.returns-else-blocks-eq8-clause-undone
 returns-else-blocks-eq8-clause-undone c =

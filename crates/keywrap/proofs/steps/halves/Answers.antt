@@ -1,7 +1,9 @@
-use Rattle.std.proofs.Common.{drop, arith, ◌∙◌, length-drop, take_all}
+use Rattle.std.proofs.Common.{rules}
+use Rattle.keywrap.proofs.Pieces.{first_is, second_is}
 use Rattle.keywrap.proofs.steps.halves.Goals as goal
 
+pub returns-clause-first : goal.returns-clause-first
+returns-clause-first c = first_is c.args.block.now (search rules)
+
 pub returns-clause-second : goal.returns-clause-second
-returns-clause-second c =
-    c.copy_from_slice-2.ensures.after ∙ take_all 8 (drop 8 c.args.block.now)
-    (omega (arith, length-drop 8 c.args.block.now))
+returns-clause-second c = second_is c.args.block.now (search rules)

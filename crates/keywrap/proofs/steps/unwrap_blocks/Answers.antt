@@ -14,7 +14,7 @@ places-init c =
       leads = λ s h.
           c.rounds.invariant.leads s
           (ap (λ t. steps c.args.key.now t s) (one_round_less n c.rounds.round some) ∙ h
-          ∙ register_end (8 * n) c.rounds.first c.rounds.blocks long);
+          ∙ register_end (8 * n) c.rounds.a c.rounds.blocks long);
       first = c.rounds.invariant.first;
       rest = c.rounds.invariant.rest;
     }
@@ -29,13 +29,13 @@ places-preserved c =
     let place : 8 * (c.places.i - 1) + 8 ≡ 8 * c.places.i = omega arith in
     record {
       leads = leads_before key (n * 6) t (c.args.first.now ++ c.args.blocks.now)
-          (register (8 * (c.places.i - 1) + 8) c.places.first c.places.blocks)
-          (register (8 * (c.places.i - 1)) c.unwrap_step.new.first c.unwrap_step.new.blocks)
+          (register (8 * (c.places.i - 1) + 8) c.places.a c.places.blocks)
+          (register (8 * (c.places.i - 1)) c.unwrap_step-a.result c.unwrap_step-a.new.blocks)
           (λ s h. c.places.invariant.leads s (ap (λ u. steps key u s) count ∙ h
-          ∙ ap (λ p. register p c.places.first c.places.blocks) place))
-          (c.unwrap_step.ensures.step key c.inverse-ready.ensures);
-      first = c.unwrap_step.ensures.first;
-      rest = c.unwrap_step.ensures.rest;
+          ∙ ap (λ p. register p c.places.a c.places.blocks) place))
+          (c.unwrap_step-a.ensures.step key c.inverse-ready.ensures);
+      first = c.unwrap_step-a.ensures.first;
+      rest = c.unwrap_step-a.ensures.rest;
     }
 
 pub rounds-preserved : goal.rounds-preserved
@@ -48,8 +48,8 @@ rounds-preserved c =
       leads = λ s h.
           c.places.invariant.leads s
           (ap (λ t. steps c.args.key.now t s) count ∙ h
-          ∙ sym (register_start c.places.first c.places.blocks)
-          ∙ ap (λ p. register p c.places.first c.places.blocks) place);
+          ∙ sym (register_start c.places.a c.places.blocks)
+          ∙ ap (λ p. register p c.places.a c.places.blocks) place);
       first = c.places.invariant.first;
       rest = c.places.invariant.rest;
     }
@@ -57,7 +57,7 @@ rounds-preserved c =
 pub returns-clause-undone : goal.returns-clause-undone
 returns-clause-undone c =
     let n : ℕ = length c.args.blocks.now / 8 in
-    let start : List ℕ = c.rounds.first ++ c.rounds.blocks in
+    let start : List ℕ = c.rounds.a ++ c.rounds.blocks in
     let last : c.rounds.round ≡ 0 = omega arith in
     let none : n * c.rounds.round ≡ 0 = ap (λ r. n * r) last ∙ omega arith in
     let turned : 6 * n ≡ n * 6 = omega arith in

@@ -6,15 +6,15 @@ use Rattle.keywrap.proofs.steps.unwrap_blocks.Given as goal
 
 abbrev pub invariant-rounds : goal.invariant-rounds
 invariant-rounds l = record {
-  leads : LeadsTo l.key (l.count * 6) (l.fn.first ++ l.fn.blocks) (l.count * l.round) (l.first ++ l.blocks);
-  first : AreBytes (length l.first) l.first;
+  leads : LeadsTo l.key (l.count * 6) (l.fn.first ++ l.fn.blocks) (l.count * l.round) (l.a ++ l.blocks);
+  first : AreBytes (length l.a) l.a;
   rest : AreBytes (length l.blocks) l.blocks;
 }
 
 abbrev pub invariant-places : goal.invariant-places
 invariant-places l = record {
   leads : LeadsTo l.key (l.count * 6) (l.fn.first ++ l.fn.blocks) (l.count * l.round + l.i)
-      (register (8 * l.i) l.first l.blocks);
-  first : AreBytes (length l.first) l.first;
+      (register (8 * l.i) l.a l.blocks);
+  first : AreBytes (length l.a) l.a;
   rest : AreBytes (length l.blocks) l.blocks;
 }

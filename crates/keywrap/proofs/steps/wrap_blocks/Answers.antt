@@ -13,7 +13,7 @@ pub places-init : goal.places-init
 places-init c =
     let n : ℕ = length c.args.blocks.now / 8 in
     let same : n * c.rounds.round ≡ n * c.rounds.round + 0 = omega arith in
-    register_start c.rounds.first c.rounds.blocks ∙ c.rounds.invariant
+    register_start c.rounds.a c.rounds.blocks ∙ c.rounds.invariant
     ∙ ap (λ t. steps c.args.key.now t (c.args.first.now ++ c.args.blocks.now)) same
 
 pub places-preserved : goal.places-preserved
@@ -24,8 +24,8 @@ places-preserved c =
     let t : ℕ = n * c.rounds.round + c.places.i in
     let place : 8 * (c.places.i + 1) ≡ 8 * c.places.i + 8 = omega arith in
     let more : t + 1 ≡ n * c.rounds.round + (c.places.i + 1) = omega arith in
-    ap (λ p. register p c.wrap_step.new.first c.wrap_step.new.blocks) place
-    ∙ c.wrap_step.ensures ∙ ap (step key (t + 1)) c.places.invariant ∙ steps_more key start t
+    ap (λ p. register p c.wrap_step-a.result c.wrap_step-a.new.blocks) place
+    ∙ c.wrap_step-a.ensures ∙ ap (step key (t + 1)) c.places.invariant ∙ steps_more key start t
     ∙ ap (λ i. steps key i start) more
 
 pub rounds-preserved : goal.rounds-preserved
@@ -34,6 +34,6 @@ rounds-preserved c =
     let long : length c.places.blocks ≤ 8 * c.places.i = omega arith in
     let all : c.places.i ≡ n = omega arith in
     let more : n * c.rounds.round + n ≡ n * (c.rounds.round + 1) = omega arith in
-    sym (register_end (8 * c.places.i) c.places.first c.places.blocks long) ∙ c.places.invariant
+    sym (register_end (8 * c.places.i) c.places.a c.places.blocks long) ∙ c.places.invariant
     ∙ ap (λ i. steps c.args.key.now (n * c.rounds.round + i) (c.args.first.now ++ c.args.blocks.now)) all
     ∙ ap (λ t. steps c.args.key.now t (c.args.first.now ++ c.args.blocks.now)) more

@@ -1,7 +1,7 @@
 use Rattle.std.proofs.Common.{ap, arith, length, drop, replicate}
 use Rattle.std.proofs.lemmas.List.{length-append}
-use Rattle.aead.proofs.DerivedKeys.{two_parts}
-use Rattle.aead.proofs.derived_keys.joined.Goals as goal
+use Rattle.octets.proofs.Blocks.{two_parts}
+use Rattle.octets.proofs.words.joined.Goals as goal
 
 pub returns : goal.returns
 returns g c =
