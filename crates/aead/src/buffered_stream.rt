@@ -5,7 +5,7 @@ ghost use Rattle.std.specs.Prelude.{◌≡◌, ◌+◌, ◌%◌, ◌<◌, ◌≤
 ghost use Rattle.chacha.specs.Stream.{key_stream_byte};
 
 use crate::mask::MaskStream;
-use chacha::{ChaStream, RUN};
+use chacha::{ChaStream, interleaving_pays};
 use octets::{BlockWork, Key32, Nonce, Order, Stream, xor_into};
 
 // The key stream from counter 1 on: first that of the precomputed blocks, and then that of the blocks after them.
@@ -85,8 +85,7 @@ impl<'a> MaskStream for BufferedStream<'a> {
     ghost made = { MadeByBuffered };
 
     fn pays_beside_a_hash(&self, length: usize) -> bool {
-        let ready = self.start.len() - self.used;
-        length > ready + if ready < RUN / 2 { RUN } else { 0 }
+        interleaving_pays(self.start.len() - self.used, length)
     }
 
     ghost masks = { buffered_masks };

@@ -10,7 +10,7 @@ ghost use Rattle.aead.specs.Code.States.{MadeByChaCha, MadeByCounter};
 ghost use Rattle.aead.specs.Code.Masks.{Masks, IsMask, chacha_masks, gcm_mask, siv_mask, counter_masks};
 
 use aes::{Count, Ctr, FirstFour, LastFour};
-use chacha::{ChaStream, RUN};
+use chacha::{ChaStream, interleaving_pays};
 use octets::Stream;
 
 // The mask of a message, made so far up to some byte.
@@ -39,7 +39,7 @@ impl MaskStream for ChaStream {
     ghost made = { MadeByChaCha };
 
     fn pays_beside_a_hash(&self, length: usize) -> bool {
-        length > RUN
+        interleaving_pays(0, length)
     }
 
     ghost masks = { chacha_masks };

@@ -2,15 +2,18 @@
 //! that comes in pieces.
 
 ghost use Rattle.std.specs.Prelude.{◌≡◌, ℕ, ◌+◌, ◌*◌, ◌%◌, ◌^◌, ◌<◌, ◌≤◌, List, ◌++◌, length, take, drop};
+ghost use Rattle.std.specs.Option.{ForSome};
 ghost use Rattle.octets.specs.Bytes.{IsBlock, block_at, xor_bytes};
 ghost use Rattle.octets.specs.Masked.{masked};
 ghost use Rattle.aes.specs.Counters.{CountsOn, counter_byte, up_be, up_le};
 ghost use Rattle.aes.specs.Code.Nibbles.{CountsInNibble};
+ghost use Rattle.aes.specs.Code.Planes.{AreReady};
+ghost use Rattle.aes.specs.Schedule.{schedule, round_count};
 ghost use Rattle.aes.specs.Code.Wraps.{WrapsAround, up_be-wraps, up_le-wraps};
 
 use crate::counted_planes::count_blocks;
 use crate::key::AesKey;
-use crate::key_planes::KeyPlanes;
+use crate::key_planes::RoundKeyPlanes;
 use crate::planes::Planes;
 use byteorder::{BigEndian, ByteOrder, LittleEndian};
 use octets::{Block, Stream, WIDE, same, xor_into};
@@ -207,8 +210,7 @@ struct Counter<C> {
 
 impl<C: Count> Counter<C> {
     ghost use Rattle.aes.specs.Code.Streams.{Makes, Advances, AdvancesFront, KnowsCipher};
-    ghost use Rattle.aes.specs.Code.Planes.{AreReady, AreMasks, HoldsSixteen};
-    ghost use Rattle.aes.specs.Schedule.{schedule, round_count};
+    ghost use Rattle.aes.specs.Code.Planes.{AreMasks, HoldsSixteen};
 
     // The state at the beginning of the stream whose first block is the cipher of `first`.
     #[inline(always)]
@@ -357,7 +359,7 @@ impl<C: Count> Counter<C> {
     // XORs in the first bytes of the next eight blocks. Every earlier block is used up. Inlined, it would slow down runs of
     // sixteen blocks.
     #[inline(never)]
-    fn mask_eight(&mut self, key: &AesKey, words: &[KeyPlanes; 15], bytes: &mut [u8])
+    fn mask_eight(&mut self, key: &AesKey, words: &RoundKeyPlanes, bytes: &mut [u8])
         requires ready { AreReady words.now (schedule key.now) (round_count key.now) }
         requires none { self.old.used ≡ 0 }
         requires room { length bytes.old ≤ 128 }
@@ -371,7 +373,7 @@ impl<C: Count> Counter<C> {
     // XORs in the first bytes of the next sixteen blocks. Every earlier block is used up. Inlined, it would make whole runs
     // reserve stack for its blocks.
     #[inline(never)]
-    fn mask_part(&mut self, key: &AesKey, words: &[KeyPlanes; 15], bytes: &mut [u8])
+    fn mask_part(&mut self, key: &AesKey, words: &RoundKeyPlanes, bytes: &mut [u8])
         requires ready { AreReady words.now (schedule key.now) (round_count key.now) }
         requires none { self.old.used ≡ 0 }
         requires room { length bytes.old ≤ 256 }
@@ -383,7 +385,7 @@ impl<C: Count> Counter<C> {
     }
 
     // XORs in the first bytes of the next sixteen blocks. Every earlier block is used up.
-    fn mask_sixteen(&mut self, key: &AesKey, words: &[KeyPlanes; 15], bytes: &mut [u8])
+    fn mask_sixteen(&mut self, key: &AesKey, words: &RoundKeyPlanes, bytes: &mut [u8])
         requires ready { AreReady words.now (schedule key.now) (round_count key.now) }
         requires none { self.old.used ≡ 0 }
         requires room { length bytes.old ≤ 256 }
@@ -407,19 +409,47 @@ impl<C: Count> Counter<C> {
     // XORs in runs of sixteen blocks while they pay, the last one perhaps in part, and returns how many bytes it masked.
     // Inlined, its frame would slow down short messages.
     #[inline(never)]
-    fn apply_sixteens(&mut self, key: &AesKey, bytes: &mut [u8]) -> usize
+    fn apply_sixteens(&mut self, key: &AesKey, words: &RoundKeyPlanes, bytes: &mut [u8]) -> usize
+        requires ready { AreReady words.now (schedule key.now) (round_count key.now) }
+        requires none { self.old.used ≡ 0 }
+        ensures { AdvancesFront C.up key.now self.old self.new bytes.old bytes.new result }
+    {
+        let mut done = 0;
+        'sixteens: while bytes.len() - done > SIXTEEN_PAY {
+            let next = run_of(bytes.len() - done);
+            self.mask_sixteen(key, words, &mut bytes[done..done + next]);
+            done += next;
+        }
+        done
+    }
+
+    // XORs in runs of sixteen blocks with planes that are made here: only this call has them on its stack.
+    #[inline(never)]
+    fn apply_sixteens_anew(&mut self, key: &AesKey, bytes: &mut [u8]) -> usize
         requires { self.old.used ≡ 0 }
         ensures { AdvancesFront C.up key.now self.old self.new bytes.old bytes.new result }
     {
         let mut words = [[0; 8]; 15];
         key.make_planes(&mut words);
-        let mut done = 0;
-        'sixteens: while bytes.len() - done > SIXTEEN_PAY {
-            let next = run_of(bytes.len() - done);
-            self.mask_sixteen(key, &words, &mut bytes[done..done + next]);
-            done += next;
+        self.apply_sixteens(key, &words, bytes)
+    }
+
+    // XORs in runs of sixteen blocks, with the planes that are lent or with new ones.
+    #[inline(always)]
+    fn apply_sixteens_by(
+        &mut self,
+        key: &AesKey,
+        planes: Option<&RoundKeyPlanes>,
+        bytes: &mut [u8],
+    ) -> usize
+        requires ready { ForSome planes (λ words. AreReady words.now (schedule key.now) (round_count key.now)) }
+        requires none { self.old.used ≡ 0 }
+        ensures { AdvancesFront C.up key.now self.old self.new bytes.old bytes.new result }
+    {
+        match planes {
+            Some(words) => self.apply_sixteens(key, words, bytes),
+            None => self.apply_sixteens_anew(key, bytes),
         }
-        done
     }
 
     // XORs in runs of four blocks while they pay, the last one perhaps in part, and returns how many bytes it masked.
@@ -440,8 +470,14 @@ impl<C: Count> Counter<C> {
     }
 
     // XORs in runs of sixteen and then of four blocks, and returns how many bytes it masked.
-    fn apply_runs(&mut self, key: &AesKey, bytes: &mut [u8]) -> usize
-        requires { self.old.used ≡ 0 }
+    fn apply_runs(
+        &mut self,
+        key: &AesKey,
+        planes: Option<&RoundKeyPlanes>,
+        bytes: &mut [u8],
+    ) -> usize
+        requires ready { ForSome planes (λ words. AreReady words.now (schedule key.now) (round_count key.now)) }
+        requires none { self.old.used ≡ 0 }
         ensures { AdvancesFront C.up key.now self.old self.new bytes.old bytes.new result }
     {
         // A short text returns here, without the call: `apply_fours` would mask nothing.
@@ -451,7 +487,7 @@ impl<C: Count> Counter<C> {
         if bytes.len() < PLANES_PAY {
             return self.apply_fours(key, bytes);
         }
-        let done = self.apply_sixteens(key, bytes);
+        let done = self.apply_sixteens_by(key, planes, bytes);
         if done == bytes.len() {
             return done;
         }
@@ -459,11 +495,12 @@ impl<C: Count> Counter<C> {
     }
 
     // XORs in runs of blocks, then pairs and single blocks, the last one perhaps in part. Every earlier block is used up.
-    fn apply_blocks(&mut self, key: &AesKey, bytes: &mut [u8])
-        requires { self.old.used ≡ 0 }
+    fn apply_blocks(&mut self, key: &AesKey, planes: Option<&RoundKeyPlanes>, bytes: &mut [u8])
+        requires ready { ForSome planes (λ words. AreReady words.now (schedule key.now) (round_count key.now)) }
+        requires none { self.old.used ≡ 0 }
         ensures { Advances C.up key.now self.old self.new bytes.old bytes.new }
     {
-        let mut done = self.apply_runs(key, bytes);
+        let mut done = self.apply_runs(key, planes, bytes);
         'pairs: while bytes.len() - done > 16 {
             let next = (bytes.len() - done).min(32);
             self.mask_two(key, &mut bytes[done..done + next]);
@@ -477,17 +514,18 @@ impl<C: Count> Counter<C> {
     }
 
     // XORs in the next bytes.
-    fn apply(&mut self, key: &AesKey, bytes: &mut [u8])
+    fn apply(&mut self, key: &AesKey, planes: Option<&RoundKeyPlanes>, bytes: &mut [u8])
+        requires ready { ForSome planes (λ words. AreReady words.now (schedule key.now) (round_count key.now)) }
         ensures { Advances C.up key.now self.old self.new bytes.old bytes.new }
     {
         if self.used == 0 {
-            self.apply_blocks(key, bytes);
+            self.apply_blocks(key, planes, bytes);
         } else if bytes.len() <= 16 - self.used {
             self.mask_rest(bytes);
         } else {
             let left = 16 - self.used;
             self.mask_rest(&mut bytes[..left]);
-            self.apply_blocks(key, &mut bytes[left..]);
+            self.apply_blocks(key, planes, &mut bytes[left..]);
         }
     }
 }
@@ -497,7 +535,10 @@ impl<C: Count> Counter<C> {
 #[derive(Drop)]
 pub struct Ctr<'k, C> {
     key: &'k AesKey,
+    // The round keys in planes, if they are lent. Without them each call that needs them makes them.
+    planes: Option<&'k RoundKeyPlanes>,
     counter: Counter<C>,
+    ghost ready: { ForSome planes (λ words. AreReady words.now (schedule key.now) (round_count key.now)) },
 }
 
 /// The stream of AES-GCM: the ciphers of blocks whose last four bytes count, most significant byte first, modulo 2^32
@@ -524,6 +565,7 @@ impl<'k, C: Count> Ctr<'k, C> {
     {
         Ctr {
             key,
+            planes: None,
             counter: Counter::new(first),
         }
     }
@@ -536,7 +578,31 @@ impl<'k, C: Count> Ctr<'k, C> {
         ensures { KnowsCipher known.now key.now → Holds C.up result key.now first.now position }
     {
         let counter = Counter::at(key, first, position, known);
-        Ctr { key, counter }
+        Ctr {
+            key,
+            planes: None,
+            counter,
+        }
+    }
+
+    /// Makes the stream whose first block is the cipher of `first`, after its first `position` bytes, with the planes that
+    /// [`AesKey::make_planes`] made: for a stream that comes in many pieces. The rest must never be used twice: see [`Ctr::new`].
+    pub fn in_planes(
+        key: &'k AesKey,
+        planes: &'k RoundKeyPlanes,
+        first: &Block,
+        position: u64,
+    ) -> Ctr<'k, C>
+        requires ready { AreReady planes.now (schedule key.now) (round_count key.now) }
+        requires within { position < 2 ^ 63 }
+        ensures { Holds C.up result key.now first.now position }
+    {
+        let counter = Counter::at(key, first, position, &KnownBlock::none());
+        Ctr {
+            key,
+            planes: Some(planes),
+            counter,
+        }
     }
 
     /// Sets `known` to the block that the stream stands inside. If it stands between two blocks, `known` does not change.
@@ -565,7 +631,7 @@ impl<'k, C: Count> Ctr<'k, C> {
             → Holds C.up self.new key first (position + length bytes.old)
             × (bytes.new ≡ masked (counter_byte C.up key first) position bytes.old) }
     {
-        self.counter.apply(self.key, bytes);
+        self.counter.apply(self.key, self.planes, bytes);
     }
 }
 

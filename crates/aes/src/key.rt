@@ -14,7 +14,7 @@ ghost use Rattle.aes.specs.Schedule.{schedule, round_count};
 use crate::columns::{add_key, last_round, load, round, store};
 use crate::inverse_key::InverseKey;
 use crate::inverse_lanes::unshift_rows;
-use crate::key_planes::{KeyPlanes, ready_planes, unpack};
+use crate::key_planes::{KeyPlanes, RoundKeyPlanes, ready_planes, unpack};
 use crate::lanes::{self, Lanes, from_basis};
 use crate::planes::{self, BitPlanes, HalfPlanes, Planes, both_halves, lower, upper};
 use crate::schedule::expand;
@@ -241,8 +241,8 @@ impl AesKey {
         self.encrypt_lanes(u8x64::from_array(*blocks)).to_array()
     }
 
-    // Writes the round keys as planes of bits, for eight blocks.
-    pub(crate) fn make_planes(&self, keys: &mut [KeyPlanes; 15])
+    /// Writes the round keys as planes of bits, for [`Ctr::in_planes`](crate::Ctr::in_planes). They are as secret as the key.
+    pub fn make_planes(&self, keys: &mut RoundKeyPlanes)
         ensures { AreReady keys.new (schedule self.now) (round_count self.now) }
     {
         ready_planes(keys, &self.keys, self.size + 6);

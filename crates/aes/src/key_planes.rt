@@ -19,6 +19,9 @@ use std::simd::u8x16;
 // plane from memory. A plane of an array of vectors, which may be unaligned, would have to be loaded first.
 pub(crate) type KeyPlanes = [u128; 8];
 
+/// The round keys of AES as planes of bits, for eight blocks: 1,920 bytes, of which AES-128 and AES-192 leave some zeros.
+pub type RoundKeyPlanes = [KeyPlanes; 15];
+
 // Spreads bit j of each of 16 key bytes to all eight bits of its lane.
 #[inline(always)]
 fn plane(key: u8x16, j: u8) -> u8x16
@@ -127,7 +130,7 @@ fn middle(key: [u8; 16]) -> u8x16
 // Writes the round keys as planes for eight blocks. Every key but the first has the constant of the S-box added, which the S-box
 // in planes leaves out, and the last is in the order of the bytes of a block. They are written in place, since returning them
 // would copy 1,920 bytes.
-pub(crate) fn ready_planes(keys: &mut [KeyPlanes; 15], ready: &[[u8; 16]; 15], last: usize)
+pub(crate) fn ready_planes(keys: &mut RoundKeyPlanes, ready: &[[u8; 16]; 15], last: usize)
     requires { (0 < last) × (last < 15) }
     ensures { (key : List ℕ) → IsKey key → KeepsReadyKeys ready.now key → last ≡ round_count key
         → AreReady keys.new (schedule key) last }

@@ -34,5 +34,6 @@ pub use columns::round;
 pub use counter::{Count, Ctr, CtrBe, CtrLe, FirstFour, KnownBlock, LastFour, blocks_count_on};
 pub use inverse_key::InverseKey;
 pub use key::AesKey;
+pub use key_planes::RoundKeyPlanes;
 pub use laws::{inverse_is_the_only, is_permutation};
 pub use schedule::schedule_recurs;

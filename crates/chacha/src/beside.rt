@@ -7,9 +7,10 @@ ghost use Rattle.octets.specs.Ends.{whole_blocks};
 ghost use Rattle.octets.specs.Masked.{masked};
 ghost use Rattle.chacha.specs.Stream.{key_stream_byte};
 
+use crate::plan::{has_run_of_eight, has_run_of_four};
 use crate::runs::{hash_then_mask, mask_then_hash};
 use crate::stream::xor_stream;
-use octets::{Beside, BlockWork, Idle, Key32, Nonce, WIDE};
+use octets::{Beside, BlockWork, Idle, Key32, Nonce};
 use std::simd::{u32x4, u32x8};
 
 // XORs whole runs of the key stream from an offset on into the bytes after the first `begun`, while `hash` takes in bytes that
@@ -34,7 +35,8 @@ fn mask_runs<W: BlockWork>(
         (k m : List ℕ) → W.comes_to hash.old [] k m → W.comes_to hash.new (drop result.1 before) k (m ++ before) }
 {
     let left = bytes.len() - begun;
-    if WIDE && offset % 64 == 0 && left >= 512 {
+    let skip = (offset % 64) as usize;
+    if has_run_of_eight(skip, left) {
         return mask_then_hash::<[u32x8; 16], W>(
             key,
             (offset / 64) as u32,
@@ -44,7 +46,7 @@ fn mask_runs<W: BlockWork>(
             hash,
         );
     }
-    if !WIDE && offset % 64 == 0 && left >= 256 {
+    if has_run_of_four(skip, left) {
         return mask_then_hash::<[u32x4; 16], W>(
             key,
             (offset / 64) as u32,
@@ -160,10 +162,11 @@ fn hash_runs<W: BlockWork>(
     ensures hashed { (k m : List ℕ) → W.comes_to hash.old [] k m
         → W.comes_to hash.new [] k (m ++ take result bytes.old) }
 {
-    if WIDE && offset % 64 == 0 && bytes.len() >= 512 {
+    let skip = (offset % 64) as usize;
+    if has_run_of_eight(skip, bytes.len()) {
         return hash_then_mask::<[u32x8; 16], W>(key, (offset / 64) as u32, nonce, bytes, hash);
     }
-    if !WIDE && offset % 64 == 0 && bytes.len() >= 256 {
+    if has_run_of_four(skip, bytes.len()) {
         return hash_then_mask::<[u32x4; 16], W>(key, (offset / 64) as u32, nonce, bytes, hash);
     }
     0

@@ -17,6 +17,7 @@
 
 mod beside;
 mod lanes;
+mod plan;
 mod row_beside;
 mod rows;
 mod runs;
@@ -27,9 +28,7 @@ mod stream;
 mod uses;
 
 pub use lanes::{four_blocks, set_four_starts};
+pub use plan::{BlocksAtOnce, SEVEN_BLOCKS, interleaving_pays};
 pub use single::block;
-pub use start::{
-    BlocksAtOnce, EightBlocks, FiveBlocks, FourBlocks, KeyStreamStart, NineBlocks, SEVEN_BLOCKS,
-    TwoBlocks,
-};
-pub use stream::{ChaStream, RUN};
+pub use start::{EightBlocks, FiveBlocks, FourBlocks, KeyStreamStart, NineBlocks, TwoBlocks};
+pub use stream::ChaStream;

@@ -1,51 +1,10 @@
-//! The first blocks of a key stream (RFC 8439, 2.4), computed at once: a type for each number of blocks, and the number that suits
-//! the length of a text.
+//! The first blocks of a key stream (RFC 8439, 2.4), computed at once: a type for each number of blocks.
 
 ghost use Rattle.std.specs.Prelude.{◌≡◌, ◌%◌, ◌<◌, ◌≤◌, ℕ, List, length, slice_index};
 ghost use Rattle.chacha.specs.Stream.{key_stream_byte};
 
 use crate::{lanes, row_beside, rows};
-use octets::{Idle, Key32, Nonce, WIDE};
-
-/// The length in bytes of the longest text that the blocks with the counters 1 to 7 mask.
-pub const SEVEN_BLOCKS: usize = 448;
-
-/// How many blocks of a key stream are computed at once, from counter 0 on.
-#[derive(Clone, Copy)]
-pub enum BlocksAtOnce {
-    /// The blocks of [`TwoBlocks`].
-    Two,
-    /// The blocks of [`FourBlocks`].
-    Four,
-    /// The blocks of [`FiveBlocks`].
-    Five,
-    /// The blocks of [`EightBlocks`].
-    Eight,
-    /// The blocks of [`NineBlocks`].
-    Nine,
-}
-
-impl BlocksAtOnce {
-    /// Returns how many blocks are computed at once for a text of `length` bytes that is masked from counter 1 on. A block beside
-    /// four or eight others costs little. The later blocks are computed four or eight at a time, and the number is such that few
-    /// of the last ones are in vain.
-    pub fn for_text(length: usize) -> BlocksAtOnce {
-        if WIDE && length > 192 {
-            return match length {
-                0..=SEVEN_BLOCKS => BlocksAtOnce::Eight,
-                _ => match length % 512 {
-                    1..=64 | 257..=320 => BlocksAtOnce::Two,
-                    _ => BlocksAtOnce::Nine,
-                },
-            };
-        }
-        match length.max(1) % 256 {
-            1..=64 => BlocksAtOnce::Two,
-            65..=192 => BlocksAtOnce::Four,
-            _ => BlocksAtOnce::Five,
-        }
-    }
-}
+use octets::{Idle, Key32, Nonce};
 
 /// The first blocks of a key stream, from counter 0 on (RFC 8439, 2.4).
 // A type for each number of blocks, so that a short text clears and copies no more bytes than it needs.

@@ -8,15 +8,14 @@ ghost use Rattle.octets.specs.Masked.{masked};
 ghost use Rattle.chacha.specs.Stream.{key_stream_byte};
 
 use crate::beside::{hash_beside, mask_beside};
+use crate::plan::{
+    EIGHT_PAY, FIVE_PAY, FOUR_PAY, HALF_IN_PLACE, has_run_of_eight, has_run_of_four,
+};
 use crate::{lanes, row_beside, rows, single};
 use octets::{BlockWork, Fault, Idle, Key32, Nonce, Order, Stream, WIDE, Work, xor_into};
 
 // The length in bytes of the key stream from counter 0 on: 2^32 blocks of 64 bytes.
 const END: u64 = 0x40_0000_0000;
-
-/// The length in bytes of a run, whose blocks are computed side by side and beside other work: eight blocks if they fit into the
-/// registers, else four.
-pub const RUN: usize = if WIDE { 512 } else { 256 };
 
 /// A ChaCha20 key stream and the position of its next byte (RFC 8439, 2.4). A stream is for one text.
 #[derive(Clone, Copy)]
@@ -163,40 +162,37 @@ fn xor_run<W: Work>(
 {
     let counter = (offset / 64) as u32;
     let skip = (offset % 64) as usize;
-    if WIDE && skip == 0 && bytes.len() >= 512 {
+    if has_run_of_eight(skip, bytes.len()) {
         let whole = bytes.len() / 512 * 512;
         lanes::xor_eights(key, counter, nonce, &mut bytes[..whole], work);
         return whole;
     }
-    if !WIDE && skip == 0 && bytes.len() >= 256 {
+    if has_run_of_four(skip, bytes.len()) {
         let whole = bytes.len() / 256 * 256;
         lanes::xor_fours(key, counter, nonce, &mut bytes[..whole], work);
         return whole;
     }
-    if WIDE && skip == 0 && bytes.len() >= 256 && counter <= u32::MAX - 7 {
-        // Half of the run is masked in place, and only the other half by way of a buffer.
+    if WIDE && skip == 0 && bytes.len() >= HALF_IN_PLACE && counter <= u32::MAX - 7 {
         let mut stream = [0; 256];
         let (front, back) = bytes.split_at_mut(256);
         lanes::xor_eight(key, counter, nonce, front, &mut stream, work);
         return 256 + xor_part(&stream, 0, back);
     }
-    if WIDE && skip + bytes.len() > 320 && counter <= u32::MAX - 7 {
+    if WIDE && skip + bytes.len() > EIGHT_PAY && counter <= u32::MAX - 7 {
         let mut stream = [0; 512];
         lanes::xor_eights(key, counter, nonce, &mut stream, work);
         return xor_part(&stream, skip, bytes);
     }
-    // Five blocks take hardly longer than four.
-    if skip + bytes.len() > 256 && counter <= u32::MAX - 4 {
+    if skip + bytes.len() > FIVE_PAY && counter <= u32::MAX - 4 {
         let mut stream = [0; 320];
         row_beside::xor_five_blocks(key, counter, nonce, &mut stream, work);
         return xor_part(&stream, skip, bytes);
     }
-    if skip + bytes.len() > 128 && counter <= u32::MAX - 3 {
+    if skip + bytes.len() > FOUR_PAY && counter <= u32::MAX - 3 {
         let mut stream = [0; 256];
         lanes::xor_fours(key, counter, nonce, &mut stream, work);
         return xor_part(&stream, skip, bytes);
     }
-    // Two blocks by rows take no longer than one.
     if counter <= u32::MAX - 1 {
         let blocks = rows::two_blocks(key, counter, nonce);
         return xor_part(blocks.as_flattened(), skip, bytes);

@@ -123,6 +123,17 @@ impl WideMul {
         self.fourth.set_word(fourth);
     }
 
+    /// Makes the multiplier of the key that `table` is the multiplier of.
+    // Inlined, since a call would move the tables.
+    #[inline(always)]
+    pub fn of_table(table: &TableMul) -> WideMul
+        ensures { ⟦<WideMul as Multiply>⟧.key_bytes result ≡ ⟦<TableMul as Multiply>⟧.key_bytes table.now }
+    {
+        let mut multiplier = WideMul::none();
+        multiplier.set_multiples(table.word, &table.multiples);
+        multiplier
+    }
+
     // The same, by tables in pairs.
     #[inline(always)]
     fn times_bytes_by_pairs(

@@ -2,21 +2,24 @@
 //! encrypted with.
 
 ghost use Rattle.std.specs.Prelude.{◌≡◌, ◌+◌, ◌<◌, ◌≤◌, ◌^◌, ℕ, List, [], length};
+ghost use Rattle.gf128.specs.Code.States.{key_of};
+ghost use Rattle.gf128.specs.Orders.{Serves};
 ghost use Rattle.aead.specs.Suites.{construction_of, aad_limit};
 ghost use Rattle.aead.specs.Sealing.{Setting};
 ghost use Rattle.aead.specs.PassStates.{IsMessageSecret, HoldsNumbers};
 ghost use Rattle.aead.specs.KeyedPasses.{cipher_key};
-ghost use Rattle.aead.specs.Code.States.{digest_over};
+ghost use Rattle.aead.specs.Code.States.{block_key, digest_over};
 ghost use Rattle.aead.specs.Code.Masks.{hashed_by};
-ghost use Rattle.aead.specs.Code.MessageKeys.{AreAesKeys};
+ghost use Rattle.aead.specs.Code.MessageKeys.{AreAesKeys, lent_key};
 ghost use Rattle.aead.specs.Code.PassSteps.{MasksPieceKnowing, TakesPiece, TakesPieceText};
 
 use crate::hashes::{BlockKeys, first_block};
 use crate::pieces::keys::{AesKeys, ExpandedKey, KeyBytes, LentMul};
 use crate::pieces::pass_state::PassState;
 use crate::rule::Rule;
-use aes::{Ctr, KnownBlock};
-use gf128::{Keyed128, TableMul};
+use crate::text_parts::PART;
+use aes::{AesKey, Ctr, KnownBlock};
+use gf128::{Keyed128, TableMul, WideMul};
 use octets::{Block, Nonce, Order};
 
 // The initial state for associated data, with a table that is made here, so that only this call has it on its stack.
@@ -149,6 +152,50 @@ pub(crate) fn take<R: Rule>(state: &mut PassState, keys: AesKeys, piece: &[u8])
     }
 }
 
+// Authenticates the text of a long piece of a ciphertext, which is decrypted part by part. The round keys are put into planes once,
+// and not for each part. Only this call has them on its stack.
+#[inline(never)]
+fn take_text_in_planes<R: Rule>(
+    state: &mut PassState,
+    key: &AesKey,
+    multiplier: LentMul,
+    nonce: &Nonce,
+    tag: &[u8; 16],
+    piece: &[u8],
+)
+    requires { state.old.length + length piece.now ≤ 2 ^ 36 }
+    ensures { (s : Setting) (fed : List ℕ) → construction_of s.suite ≡ R.Count.by
+        → key.now ≡ cipher_key R.Count.by s → Serves R.order (block_key R.Count.by s) (lent_key multiplier.entry)
+        → nonce.now ≡ s.nonce → TakesPieceText state.old state.new piece.now s tag.now fed }
+{
+    let first = R::first_counter(nonce, tag);
+    let mut planes = [[0; 8]; 15];
+    key.make_planes(&mut planes);
+    let mut mask = Ctr::<R::Count>::in_planes(key, &planes, &first, state.length);
+    state.take_text(&BlockKeys::<LentMul, R>::by(&multiplier), &mut mask, piece);
+}
+
+// Authenticates the text of a long piece of a ciphertext. The tables of four powers of the hash key are made once, and not for each
+// part. Only this call has them on its stack.
+#[inline(never)]
+fn take_text_by_powers<R: Rule>(
+    state: &mut PassState,
+    key: &AesKey,
+    table: &TableMul,
+    nonce: &Nonce,
+    tag: &[u8; 16],
+    piece: &[u8],
+)
+    requires { state.old.length + length piece.now ≤ 2 ^ 36 }
+    ensures { (s : Setting) (fed : List ℕ) → construction_of s.suite ≡ R.Count.by
+        → key.now ≡ cipher_key R.Count.by s → Serves R.order (block_key R.Count.by s) (key_of table.now)
+        → nonce.now ≡ s.nonce → TakesPieceText state.old state.new piece.now s tag.now fed }
+{
+    let multiplier = WideMul::of_table(table);
+    let lent = LentMul::Wide(&multiplier);
+    take_text_in_planes::<R>(state, key, lent, nonce, tag, piece);
+}
+
 // Authenticates the text of a piece of a ciphertext with a key schedule and a multiplier.
 fn take_text_expanded<R: Rule>(
     state: &mut PassState,
@@ -162,6 +209,22 @@ fn take_text_expanded<R: Rule>(
         → AreAesKeys R.Count.by R.order (AesKeys.Expanded keys.entry) s → nonce.now ≡ s.nonce
         → TakesPieceText state.old state.new piece.now s tag.now fed }
 {
+    if piece.len() > PART {
+        match keys.multiplier {
+            LentMul::Table(table) => take_text_by_powers::<R>(
+                state, keys.key, table, nonce, tag, piece,
+            ),
+            LentMul::Wide(_) => take_text_in_planes::<R>(
+                state,
+                keys.key,
+                keys.multiplier,
+                nonce,
+                tag,
+                piece,
+            ),
+        }
+        return;
+    }
     let first = R::first_counter(nonce, tag);
     let mut mask = Ctr::<R::Count>::at_known(keys.key, &first, state.length, &KnownBlock::none());
     state.take_text(

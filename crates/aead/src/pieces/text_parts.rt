@@ -11,7 +11,7 @@ use crate::step::step;
 use octets::Order;
 
 // The length of the buffer in bytes. It is on the stack, and the header for C says how much stack a call takes at most.
-const PART: usize = 2048;
+pub(crate) const PART: usize = 2048;
 
 // Authenticates the text of a part of a ciphertext.
 fn take_part<S: MaskStream, H: TagHash>(

@@ -3,21 +3,21 @@ use Rattle.chacha.specs.Stream.{key_stream_byte}
 use Rattle.chacha.proofs.Masking.{whole_blocks, no_run}
 use Rattle.chacha.proofs.beside.hash_runs.Goals as goal
 
-pub returns-then-bytes-ge512-clause-masked : goal.returns-then-bytes-ge512-clause-masked
-returns-then-bytes-ge512-clause-masked g c =
+pub returns-then-has_run_of_eight-clause-masked : goal.returns-then-has_run_of_eight-clause-masked
+returns-then-has_run_of_eight-clause-masked g c =
     let was = c.args.bytes.now in
     let n : ℕ = c.hash_then_mask.result in
     c.hash_then_mask.ensures.masked
     ∙ ap (λ l. l ++ drop n was)
-    (whole_blocks c.args.key.now c.args.nonce.now c.args.offset (take n was) c.if-offset-eq0.true)
+    (whole_blocks c.args.key.now c.args.nonce.now c.args.offset (take n was) (c.has_run_of_eight.ensures c.if-has_run_of_eight.true).0)
 
-pub returns-then-bytes-ge256-clause-masked : goal.returns-then-bytes-ge256-clause-masked
-returns-then-bytes-ge256-clause-masked g c =
+pub returns-then-has_run_of_four-clause-masked : goal.returns-then-has_run_of_four-clause-masked
+returns-then-has_run_of_four-clause-masked g c =
     let was = c.args.bytes.now in
-    let n : ℕ = c.hash_then_mask-then-bytes-ge256.result in
-    c.hash_then_mask-then-bytes-ge256.ensures.masked
+    let n : ℕ = c.hash_then_mask-then-has_run_of_four.result in
+    c.hash_then_mask-then-has_run_of_four.ensures.masked
     ∙ ap (λ l. l ++ drop n was)
-    (whole_blocks c.args.key.now c.args.nonce.now c.args.offset (take n was) c.if-offset-eq0-2.true)
+    (whole_blocks c.args.key.now c.args.nonce.now c.args.offset (take n was) (c.has_run_of_four.ensures c.if-has_run_of_four.true).0)
 
 pub returns-clause-masked : goal.returns-clause-masked
 returns-clause-masked g c = no_run (key_stream_byte c.args.key.now c.args.nonce.now 0) c.args.offset c.args.bytes.now

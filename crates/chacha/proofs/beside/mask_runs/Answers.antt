@@ -4,25 +4,25 @@ use Rattle.chacha.proofs.Masking.{whole_blocks}
 use Rattle.chacha.proofs.BesideHash.{none_masked}
 use Rattle.chacha.proofs.beside.mask_runs.Goals as goal
 
-pub returns-then-left-ge512-clause-masked : goal.returns-then-left-ge512-clause-masked
-returns-then-left-ge512-clause-masked g c =
+pub returns-then-has_run_of_eight-clause-masked : goal.returns-then-has_run_of_eight-clause-masked
+returns-then-has_run_of_eight-clause-masked g c =
     let was = c.args.bytes.now in
     let b : ℕ = c.args.begun in
     let rest : List ℕ = drop b was in
     let n : ℕ = c.mask_then_hash.result.0 - b in
     c.mask_then_hash.ensures.masked
     ∙ ap (λ l. take b was ++ (l ++ drop n rest))
-    (whole_blocks c.args.key.now c.args.nonce.now c.args.offset (take n rest) c.if-offset-eq0.true)
+    (whole_blocks c.args.key.now c.args.nonce.now c.args.offset (take n rest) (c.has_run_of_eight.ensures c.if-has_run_of_eight.true).0)
 
-pub returns-then-left-ge256-clause-masked : goal.returns-then-left-ge256-clause-masked
-returns-then-left-ge256-clause-masked g c =
+pub returns-then-has_run_of_four-clause-masked : goal.returns-then-has_run_of_four-clause-masked
+returns-then-has_run_of_four-clause-masked g c =
     let was = c.args.bytes.now in
     let b : ℕ = c.args.begun in
     let rest : List ℕ = drop b was in
-    let n : ℕ = c.mask_then_hash-then-left-ge256.result.0 - b in
-    c.mask_then_hash-then-left-ge256.ensures.masked
+    let n : ℕ = c.mask_then_hash-then-has_run_of_four.result.0 - b in
+    c.mask_then_hash-then-has_run_of_four.ensures.masked
     ∙ ap (λ l. take b was ++ (l ++ drop n rest))
-    (whole_blocks c.args.key.now c.args.nonce.now c.args.offset (take n rest) c.if-offset-eq0-2.true)
+    (whole_blocks c.args.key.now c.args.nonce.now c.args.offset (take n rest) (c.has_run_of_four.ensures c.if-has_run_of_four.true).0)
 
 pub returns-clause-masked : goal.returns-clause-masked
 returns-clause-masked g c =

@@ -5,13 +5,13 @@ use Rattle.aes.proofs.counter.Counter.apply_runs.Goals as goal
 
 pub returns : goal.returns
 returns g c =
-    let a : ℕ = c.apply_sixteens-done.result in
-    let mid = c.apply_sixteens-done.new.bytes in
+    let a : ℕ = c.apply_sixteens_by-done.result in
+    let mid = c.apply_sixteens_by-done.new.bytes in
     let k : ℕ = length mid - a in
     let part : length (take k (drop a mid)) ≡ k = length-take-le k (drop a mid) (omega (arith, length-drop a mid)) in
-    front_then g.C.Count.up c.args.key.now c.args.self.now c.apply_sixteens-done.new.self c.apply_fours-2.new.self c.args.bytes.now mid
-    c.apply_fours-2.new.bytes a k c.apply_fours-2.result c.apply_sixteens-done.auto.bytes
-    c.apply_sixteens-done.ensures refl (c.apply_fours-2.auto.bytes ∙ part) c.apply_fours-2.ensures
+    front_then g.C.Count.up c.args.key.now c.args.self.now c.apply_sixteens_by-done.new.self c.apply_fours-2.new.self c.args.bytes.now mid
+    c.apply_fours-2.new.bytes a k c.apply_fours-2.result c.apply_sixteens_by-done.auto.bytes
+    c.apply_sixteens_by-done.ensures refl (c.apply_fours-2.auto.bytes ∙ part) c.apply_fours-2.ensures
 
 pub returns-then-bytes-le-FOUR_PAY : goal.returns-then-bytes-le-FOUR_PAY
-returns-then-bytes-le-FOUR_PAY g c = front_none g.C.Count.up c.args.key.now c.args.self.now c.args.bytes.now c.requires
+returns-then-bytes-le-FOUR_PAY g c = front_none g.C.Count.up c.args.key.now c.args.self.now c.args.bytes.now c.requires.none

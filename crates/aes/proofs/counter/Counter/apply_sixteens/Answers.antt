@@ -4,7 +4,7 @@ use Rattle.aes.proofs.StreamSteps.{front_none, front_more}
 use Rattle.aes.proofs.counter.Counter.apply_sixteens.Goals as goal
 
 pub sixteens-init : goal.sixteens-init
-sixteens-init g c = front_none g.C.Count.up c.args.key.now c.args.self.now c.args.bytes.now c.requires
+sixteens-init g c = front_none g.C.Count.up c.args.key.now c.args.self.now c.args.bytes.now c.requires.none
 
 pub sixteens-preserved : goal.sixteens-preserved
 sixteens-preserved g c =

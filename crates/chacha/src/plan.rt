@@ -1,0 +1,94 @@
+//! How many blocks of a key stream are made at once: every threshold of ChaCha20, in bytes. All forms make the same bytes and
+//! differ in speed alone. The thresholds were found by measuring, and docs/SPEED.md says what each form brings.
+
+ghost use Rattle.std.specs.Prelude.{◌≡◌, ◌≤◌, true};
+
+use octets::WIDE;
+
+// The length in bytes of a run, whose blocks are computed side by side and interleaved with other work: eight blocks if they fit
+// into the registers, else four. With AVX2, eight in place of four are 1.5 times as fast.
+const RUN: usize = if WIDE { 512 } else { 256 };
+
+/// Returns whether bytes begin with a run, in a build where a run is eight blocks. `skip` is their offset in the first block: a
+/// run begins with its first byte.
+#[inline(always)]
+pub(crate) fn has_run_of_eight(skip: usize, length: usize) -> bool
+    ensures { result ≡ true → (skip ≡ 0) × (512 ≤ length) }
+{
+    WIDE && skip == 0 && length >= 512
+}
+
+/// Returns whether bytes begin with a run, in a build where a run is four blocks.
+#[inline(always)]
+pub(crate) fn has_run_of_four(skip: usize, length: usize) -> bool
+    ensures { result ≡ true → (skip ≡ 0) × (256 ≤ length) }
+{
+    !WIDE && skip == 0 && length >= 256
+}
+
+/// From this length on, with AVX2, the first half of a run of eight blocks is masked in place, and only the other half by way of a
+/// buffer.
+pub(crate) const HALF_IN_PLACE: usize = 256;
+
+/// With AVX2, more key stream than this is made eight blocks at once. They take hardly longer than four.
+pub(crate) const EIGHT_PAY: usize = 320;
+
+/// More key stream than this is made five blocks at once: one by rows in the idle slots of four in lanes, which makes 700 to 832
+/// bytes 1.04 to 1.14 times as fast.
+pub(crate) const FIVE_PAY: usize = 256;
+
+/// More key stream than this is made four blocks at once, in lanes. Up to this length there are two blocks by rows, which take no
+/// longer than one: up to 64 bytes 1.25 to 1.36 times as fast as block by block.
+pub(crate) const FOUR_PAY: usize = 128;
+
+/// The length in bytes of the longest text that the blocks with the counters 1 to 7 mask. Up to this length an opening hashes the
+/// ciphertext and then decrypts it by blocks that are made already; in a longer one, both are interleaved.
+pub const SEVEN_BLOCKS: usize = 448;
+
+/// How many blocks of a key stream are computed at once, from counter 0 on.
+#[derive(Clone, Copy)]
+pub enum BlocksAtOnce {
+    /// The blocks of [`TwoBlocks`](crate::TwoBlocks).
+    Two,
+    /// The blocks of [`FourBlocks`](crate::FourBlocks).
+    Four,
+    /// The blocks of [`FiveBlocks`](crate::FiveBlocks).
+    Five,
+    /// The blocks of [`EightBlocks`](crate::EightBlocks).
+    Eight,
+    /// The blocks of [`NineBlocks`](crate::NineBlocks).
+    Nine,
+}
+
+impl BlocksAtOnce {
+    /// Returns how many blocks are computed at once for a text of `length` bytes that is masked from counter 1 on. A block beside
+    /// four or eight others costs little. The later blocks are computed four or eight at a time, and the number is such that few
+    /// of the last ones are in vain.
+    pub fn for_text(length: usize) -> BlocksAtOnce {
+        // Up to 192 bytes, four blocks are enough: three for the text.
+        if WIDE && length > 192 {
+            return match length {
+                0..=SEVEN_BLOCKS => BlocksAtOnce::Eight,
+                // Two blocks leave one for the text. What follows it fills runs of eight, the last one wholly or by half.
+                _ => match length % 512 {
+                    1..=64 | 257..=320 => BlocksAtOnce::Two,
+                    _ => BlocksAtOnce::Nine,
+                },
+            };
+        }
+        // The text takes one, three or four of these blocks. What follows them fills runs of four.
+        match length.max(1) % 256 {
+            1..=64 => BlocksAtOnce::Two,
+            65..=192 => BlocksAtOnce::Four,
+            _ => BlocksAtOnce::Five,
+        }
+    }
+}
+
+/// Returns whether interleaving a hash with the mask of a text of `length` bytes takes less time than hashing after it. The key
+/// stream for the first `ready` bytes is made already. A run is interleaved with the hash of what is masked before it: if that is
+/// less than half a run, the first run has little to be interleaved with, and a second one has to follow. Sealing 1 KiB became
+/// 1.2 times as fast.
+pub fn interleaving_pays(ready: usize, length: usize) -> bool {
+    length > ready && (ready >= RUN / 2 || length - ready > RUN)
+}
