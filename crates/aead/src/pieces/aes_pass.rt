@@ -16,8 +16,8 @@ ghost use Rattle.aead.specs.Code.PassSteps.{MasksPieceKnowing, TakesPiece, Takes
 use crate::hashes::{BlockKeys, first_block};
 use crate::pieces::keys::{AesKeys, ExpandedKey, KeyBytes, LentMul};
 use crate::pieces::pass_state::PassState;
+use crate::pieces::text_parts::PART;
 use crate::rule::Rule;
-use crate::text_parts::PART;
 use aes::{AesKey, Ctr, KnownBlock};
 use gf128::{Keyed128, TableMul, WideMul};
 use octets::{Block, Nonce, Order};
