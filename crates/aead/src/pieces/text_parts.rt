@@ -10,8 +10,9 @@ use crate::mask::MaskStream;
 use crate::step::step;
 use octets::Order;
 
-// The length of the buffer in bytes. It is on the stack, and the header for C says how much stack a call takes at most.
-pub(crate) const PART: usize = 2048;
+// The length of the buffer in bytes. It is on the stack with the planes and the tables that serve all parts, and the header for C says
+// how much stack a call takes at most.
+pub(crate) const PART: usize = 1024;
 
 // Authenticates the text of a part of a ciphertext.
 fn take_part<S: MaskStream, H: TagHash>(
@@ -19,7 +20,7 @@ fn take_part<S: MaskStream, H: TagHash>(
     authenticator: &mut Authenticator<H>,
     part: &[u8],
 )
-    requires small { length part.now ≤ 2048 }
+    requires small { length part.now ≤ 1024 }
     requires room { authenticator.old.length + length part.now < 2 ^ 64 }
     ensures takes { TakesText S.made H.held mask.old mask.new authenticator.old authenticator.new part.now }
     ensures length { authenticator.new.length ≡ authenticator.old.length + length part.now }
