@@ -76,7 +76,8 @@ check-rust: $(PREFIX)/lib/libaeadkit.a
 	cd packages/rust && AEADKIT_PREFIX="$(PREFIX)" CARGO_TARGET_DIR="$(BUILD)/cargo" cargo test --offline
 	cd packages/rust && AEADKIT_PREFIX="$(PREFIX)" CARGO_TARGET_DIR="$(BUILD)/cargo" cargo build --offline --no-default-features
 check-python: $(PREFIX)/lib/libaeadkit.a
-	cd packages/python && AEADKIT_PREFIX="$(PREFIX)" PYTHONDONTWRITEBYTECODE=1 python3 -m unittest discover -s tests
+	cd packages/python && AEADKIT_PREFIX="$(PREFIX)" $(or $(PYTHON),python3) setup.py -q build -b "$(BUILD)/python" --build-lib "$(BUILD)/python/lib"
+	cd packages/python/tests && AEADKIT_PREFIX="$(PREFIX)" PYTHONPATH="$(BUILD)/python/lib" PYTHONDONTWRITEBYTECODE=1 $(or $(PYTHON),python3) -m unittest
 check-javascript: $(PREFIX)/share/aeadkit/javascript/aeadkit.wasm
 	cd packages/javascript && AEADKIT_PREFIX="$(PREFIX)" npm test
 	tools/build/lanes.py "$(PREFIX)/share/aeadkit/javascript/aeadkit.wasm"

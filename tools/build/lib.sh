@@ -263,10 +263,33 @@ standin_wasm() {
     javascript "$build/standin.wasm"
 }
 
+# Builds the wheel over the prefix, for the processor of its archive: wheel FOLDER
+# The extension is for the stable ABI of Python, so the headers of this machine's Python serve for another processor too; those of
+# Debian include one from a folder that is named after the processor. Every pip for Python 3.11 knows the tag, which says 2.17 of glibc.
+wheel() (
+    room=$build/python
+    rm -rf "$room"
+    cp -R "$top/packages/python" "$room"
+    rm -rf "$room/build"
+    processor=x86_64
+    ! LC_ALL=C readelf -h "$prefix/lib/libaeadkit.a" | grep -q AArch64 || processor=aarch64
+    compiler=cc
+    [ $processor = "$(uname -m)" ] || compiler=$processor-linux-gnu-gcc
+    ln -s "/usr/include/$(uname -m)-linux-gnu" "$room/$processor-linux-gnu"
+    umask 022
+    cd "$room"
+    AEADKIT_PREFIX=$prefix SOURCE_DATE_EPOCH=${SOURCE_DATE_EPOCH:-400000000} CC=$compiler LDSHARED="$compiler -shared" CFLAGS="-I$room" \
+        "${PYTHON:-python3}" setup.py -q bdist_wheel -p "manylinux_2_17_$processor" -d "$1" > log 2>&1 || {
+        tail -n 20 log >&2
+        exit 1
+    }
+    ! readelf -VW build/lib*/aeadkit/*.so | grep -E 'GLIBC_2\.(1[89]|[2-9][0-9])' >&2
+)
+
 # Packs a tarball for C and a wheel for each processor, the crate and the npm package into BUILD/dist, with their sums. The same
 # commit gives the same bytes in any folder: what is packed has the time of the commit, one owner and one order.
 dist() {
-    needs tar:tar gzip:gzip cargo:cargo npm:npm wasm-dis:binaryen wasm-as:binaryen
+    needs tar:tar gzip:gzip aarch64-linux-gnu-gcc:gcc-aarch64-linux-gnu cargo:cargo npm:npm wasm-dis:binaryen wasm-as:binaryen
     SOURCE_DATE_EPOCH=${SOURCE_DATE_EPOCH:-$(git -C "$top" log -1 --format=%ct 2> /dev/null || true)}
     [ -n "$SOURCE_DATE_EPOCH" ] || fail "there is no commit whose time the packages could have: set SOURCE_DATE_EPOCH to a number of seconds"
     export SOURCE_DATE_EPOCH LC_ALL=C
@@ -287,7 +310,7 @@ dist() {
         for archive in libaeadkit.a x86-64-v3/libaeadkit.a; do
             [ ! -e "$prefix/lib/$archive" ] || install -D -m 644 "$prefix/lib/$archive" "$package/lib/$processor/$archive"
         done
-        AEADKIT_PREFIX=$prefix PYTHONDONTWRITEBYTECODE=1 python3 "$top/packages/python/backend.py" "$out"
+        wheel "$out"
     done
     (cd "$package" && CARGO_TARGET_DIR="$build/cargo" cargo package --quiet --offline --no-verify --allow-dirty)
     cp "$build/cargo/package/aeadkit-$version.crate" "$out/"

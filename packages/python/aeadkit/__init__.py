@@ -3,7 +3,7 @@
 >>> import os
 >>> from aeadkit import Key, Suite
 >>> key = Key(Suite.CHACHA20_POLY1305, os.urandom(32))
->>> nonce = os.urandom(12)
+>>> nonce = (1).to_bytes(12, "big")  # the number of the message under this key
 >>> sealed = key.seal(nonce, b"the text", aad=b"a label")
 >>> key.open(nonce, sealed, aad=b"a label")
 b'the text'
@@ -13,18 +13,19 @@ what the text is and where it belongs. `aeadkit.aead` has the classes AESGCM, AE
 cryptography (PyCA), and `aeadkit.keywrap` its functions for AES key wrap.
 
 Arguments. Keys, nonces, associated data and texts are bytes, or an object that gives bytes, such as a bytearray, a
-memoryview, an mmap or a numpy array of uint8. Anything else is a TypeError. An argument that is not bytes is copied first.
-The calls in place change a writable buffer, which no other thread may read or write during the call. A slice of a bytearray
-is a copy: to seal a part in place, pass memoryview(data)[1:5] and not data[1:5].
+memoryview, an mmap or a numpy array of uint8. Anything else is a TypeError. They are read where they are, and no other thread
+may change them during the call. The calls in place change what a memoryview shows, such as memoryview(data)[1:5], which no
+other thread may read or write meanwhile. They take nothing else: data[1:5] of a bytearray is a copy, which would be lost.
 
 Exceptions. Failed authentication is InvalidTag, and so is a sealing that is shorter than a tag. A call in the wrong order,
-after close or in a forked process is a StateError. A wrong length and an unknown suite are ValueErrors. After any other
-exception in the middle of a message, such as KeyboardInterrupt, begin the message again under another nonce.
+after close or in a forked process is a StateError. All exceptions of this package are Refused. A wrong length and an unknown
+suite are ValueErrors. After any other exception in the middle of a message, such as KeyboardInterrupt, begin the message
+again under another nonce.
 
-Threads and processes. A Key may be shared by threads, and a forked process may use it, but a fork copies a counter of nonces
-too: give each process its own key, or its own part of the nonce. A Sealer, an Opener and a SivSealer run one call at a
-time, in the order in which the threads make them. They cannot be copied, pickled or used in a forked process, since two
-copies would seal two texts under one nonce.
+Threads and processes. Other threads run during a call over 2 KiB or more. A Key may be shared by threads, and a forked process
+may use it, but a fork copies a counter of nonces too: give each process its own key, or its own part of the nonce. A Sealer, an
+Opener and a SivSealer run one call at a time, in the order in which the threads make them. They cannot be copied, pickled or
+used in a forked process, since two copies would seal two texts under one nonce.
 
 Memory. The structs that hold keys are wiped by close, at the end of a with statement, and when the object is deleted.
 Python's own bytes are not wiped. No suite looks up memory by a secret byte or branches on one; this was looked for in the
@@ -33,39 +34,48 @@ machine code, and is not proved (docs/SECURITY.md).
 
 from __future__ import annotations
 
-import ctypes
 import enum
 import os
 import threading
+from importlib import import_module
 from typing import TYPE_CHECKING, Any, Callable, NoReturn, Optional, TypeVar
-
-from . import _library as lib
 
 if TYPE_CHECKING:
     from _typeshed import ReadableBuffer as Buffer
 
-__all__ = ["Suite", "Key", "Sealer", "Opener", "SivSealer", "InvalidTag", "InvalidUnwrap", "SourceChanged", "StateError"]
+__all__ = ["Suite", "Key", "Sealer", "Opener", "SivSealer", "Refused", "InvalidTag", "InvalidUnwrap", "Overlap",
+           "SourceChanged", "StateError"]
+
+lib: Any = import_module("._library", __name__)
+if lib.RUNS_V3:
+    lib = import_module("._library_v3", __name__)
 __version__: str = lib.VERSION
 
-_TAG_BYTES = 16
+
+class Refused(Exception):
+    """The base of the exceptions of this package."""
 
 
-class InvalidTag(Exception):
+class InvalidTag(Refused):
     """Authentication failed: the bytes were not sealed under this suite, key, nonce and associated data.
 
     The library does not know which of them differs. A program should not tell its peer more than that authentication failed.
     """
 
 
-class InvalidUnwrap(Exception):
+class InvalidUnwrap(Refused):
     """Authentication failed: not a valid wrapping under this key."""
 
 
-class SourceChanged(Exception):
+class SourceChanged(Refused):
     """The second pass over a message was given other bytes than the first. What update returned is to be thrown away."""
 
 
-class StateError(Exception):
+class Overlap(Refused):
+    """The text of a call in place shares memory with another argument of the call. Nothing was changed."""
+
+
+class StateError(Refused):
     """A call out of order: in another pass, after finish or close, or in a forked process. Nothing was changed by it."""
 
 
@@ -77,15 +87,19 @@ _FAULTS: dict[int, tuple[type[Exception], str]] = {
     5: (InvalidTag, "authentication failed"),
     6: (InvalidTag, "authentication failed"),
     13: (SourceChanged, "the second pass was given other bytes than the first"),
-    14: (ValueError, "the call does not take this suite"),
+    14: (ValueError, "the call does not take this suite: siv_sealer and SivSealer are for AES-GCM-SIV, sealer and Sealer for "
+                     "the other suites"),
     15: (StateError, "the call is out of order: not begun, in another pass, or finished"),
+    17: (Overlap, "the text of the call in place shares memory with another argument"),
 }
 
 
-def _check(status: int) -> None:
-    if status:
-        fault, message = _FAULTS.get(status, (RuntimeError, f"the library returned the status {status}"))
+def _done(result: Any) -> Any:
+    """The result of a call, which is a tuple of a status and the output if it was refused."""
+    if type(result) is tuple:
+        fault, message = _FAULTS.get(result[0], (RuntimeError, f"the library returned the status {result[0]}"))
         raise fault(message)
+    return result
 
 
 class Suite(enum.IntEnum):
@@ -98,20 +112,28 @@ class Suite(enum.IntEnum):
     AES_128_GCM_SIV = 5
     AES_256_GCM_SIV = 6
 
+    @classmethod
+    def named(cls, name: str) -> Suite:
+        """The suite that the command and the vector files call by this name, such as "chacha20-poly1305", or ValueError."""
+        names = {suite.name.lower().replace("_", "-"): suite for suite in cls}
+        if name not in names:
+            raise ValueError(f"the name of the suite is not one of {', '.join(names)}")
+        return names[name]
+
     @property
     def key_bytes(self) -> int:
         """The length of a key in bytes."""
-        return lib.aeadkit_key_length(self)
+        return lib.facts(self)[0]
 
     @property
     def text_limit(self) -> int:
         """The length of the longest text in bytes."""
-        return lib.aeadkit_text_limit(self)
+        return lib.facts(self)[1]
 
     @property
     def aad_limit(self) -> int:
         """The length of the longest associated data in bytes."""
-        return lib.aeadkit_aad_limit(self)
+        return lib.facts(self)[2]
 
 
 def _suite(suite: int) -> Suite:
@@ -120,63 +142,15 @@ def _suite(suite: int) -> Suite:
     return Suite(suite)
 
 
-def _view(data: Buffer) -> memoryview:
-    view = memoryview(data)
-    if view.format.lstrip("<") not in ("B", "b", "c"):
-        raise TypeError(f"bytes are required, not the items of {type(data).__name__!r}")
-    return view
-
-
-def _bytes(data: Buffer) -> bytes:
-    """The bytes of the data, which nobody can change."""
-    return data if type(data) is bytes else _view(data).tobytes()
-
-
-def _in(*parts: Buffer) -> list[Any]:
-    """Each part as the pointer and the length that the library takes."""
-    words: list[Any] = []
-    for part in parts:
-        data = _bytes(part)
-        words += (data, len(data))
-    return words
-
-
-def _aad(aad: Optional[Buffer]) -> Buffer:
-    return b"" if aad is None else aad
-
-
-def _tag(tag: Buffer) -> bytes:
-    data = _bytes(tag)
-    if len(data) != _TAG_BYTES:
-        raise ValueError("the tag is not 16 bytes long")
-    return data
-
-
-# A new bytes object, which a call of the library fills before anybody else sees it: there is no second copy of the output.
-_new_bytes: Callable[[None, int], bytes] = ctypes.PYFUNCTYPE(ctypes.py_object, ctypes.c_char_p, ctypes.c_ssize_t)(
-    ("PyBytes_FromStringAndSize", ctypes.pythonapi))
-
-
-_copy: Any = ctypes.memmove
-
-
-def _place(view: memoryview) -> tuple[Optional[int], int]:
-    """The address and the length of a buffer, which stays there as long as the view. TypeError if it cannot be changed."""
-    return (ctypes.addressof(ctypes.c_char.from_buffer(view)) if view.nbytes else None), view.nbytes
-
-
 class _Struct:
-    """A struct of the library, begun by a call. It is wiped when neither an object nor a call uses it any more."""
+    """A struct of the library. It is wiped when neither an object nor a call uses it any more."""
 
-    def __init__(self, kind: lib.Kind, suite: Suite, begin: Callable[..., int], *words: Any) -> None:
-        self.suite, self.process = suite, os.getpid()
+    def __init__(self, suite: Suite, memory: bytearray) -> None:
+        self.suite, self.memory, self.process = suite, memory, os.getpid()
         self.lock = threading.RLock()  # not Lock: a signal handler may call while its thread holds it
-        self._wipe, self._memory = kind.wipe, kind.memory()
-        self._as_parameter_ = ctypes.addressof(self._memory)
-        _check(begin(self, *words))
 
-    def __del__(self) -> None:
-        self._wipe(self._as_parameter_)
+    def __del__(self, wipe: Callable[[bytearray], bytes] = lib.wipe) -> None:
+        wipe(self.memory)
 
 
 _Self = TypeVar("_Self", bound="_HasStruct")
@@ -222,8 +196,8 @@ class Key(_HasStruct):
 
     Never seal twice with one nonce under one key. Nothing here notices a repeat. Under ChaCha20-Poly1305 and AES-GCM it gives
     away the XOR of the two texts and enough to forge messages; under AES-GCM-SIV only whether the messages are the same. Use
-    a counter, or at most 2**32 random nonces under one key. A sealing in pieces uses its nonce up even if it is never
-    finished.
+    a counter that is stored before it is used, as 12 bytes with the highest first; where nonces are drawn at random take
+    AES-256-GCM-SIV, and draw at most 2**32 under one key. A sealing in pieces uses its nonce up even if it is never finished.
 
     ValueError if the key is not `suite.key_bytes` long. The calls raise ValueError if the nonce is not 12 bytes long, or if the
     text or the associated data is longer than `suite.text_limit` or `suite.aad_limit`, and StateError after close.
@@ -231,7 +205,7 @@ class Key(_HasStruct):
 
     def __init__(self, suite: int, key: Buffer) -> None:
         member = _suite(suite)
-        self._struct = _Struct(lib.KEY, member, lib.aeadkit_key_init, member, *_in(key))
+        self._struct = _Struct(member, _done(lib.key_init(member, key)))
 
     def __copy__(self) -> Key:
         return self
@@ -241,92 +215,70 @@ class Key(_HasStruct):
 
     def seal(self, nonce: Buffer, text: Buffer, *, aad: Optional[Buffer] = None) -> bytes:
         """Returns the ciphertext of the text, followed by the tag: 16 bytes more than the text."""
-        data = _bytes(text)
-        sealed = _new_bytes(None, len(data) + _TAG_BYTES)
-        _check(lib.aeadkit_seal_with(self._get(), *_in(nonce, data, _aad(aad)), sealed, len(sealed)))
-        return sealed
+        struct = self._get()
+        return _done(lib.seal(struct.memory, nonce, text, aad))
 
     def open(self, nonce: Buffer, sealed: Buffer, *, aad: Optional[Buffer] = None) -> bytes:
         """Returns the text of what seal returned, under the same nonce and associated data.
 
         InvalidTag if the bytes are not such a sealing, or are shorter than a tag. No text is returned then.
         """
-        data = _bytes(sealed)
-        text = _new_bytes(None, max(len(data) - _TAG_BYTES, 0))
-        _check(lib.aeadkit_open_with(self._get(), *_in(nonce, data, _aad(aad)), text, len(text)))
-        return text
+        struct = self._get()
+        return _done(lib.open(struct.memory, nonce, sealed, aad))
 
-    def seal_in_place(self, nonce: Buffer, text: Buffer, *, aad: Optional[Buffer] = None) -> bytes:
-        """Replaces a text in a writable buffer by its ciphertext, and returns the tag of 16 bytes.
+    def seal_in_place(self, nonce: Buffer, text: memoryview, *, aad: Optional[Buffer] = None) -> bytes:
+        """Replaces the text that a memoryview shows by its ciphertext, and returns the tag of 16 bytes.
 
-        The ciphertext and then the tag are what seal returns. After an exception the buffer is as it was. TypeError if the
-        buffer is read-only or not contiguous.
+        The ciphertext and then the tag are what seal returns. After an exception the text is as it was. TypeError if `text` is
+        not a memoryview, is read-only or is not contiguous; Overlap if the nonce or the associated data stands in it.
         """
-        tag = ctypes.create_string_buffer(_TAG_BYTES)
-        with _view(text) as view:
-            _check(lib.aeadkit_seal_in_place_with(self._get(), *_in(nonce), *_place(view), *_in(_aad(aad)), tag))
-        return tag.raw
+        struct = self._get()
+        return _done(lib.seal_in_place(struct.memory, nonce, text, aad))
 
-    def open_in_place(self, nonce: Buffer, ciphertext: Buffer, tag: Buffer, *, aad: Optional[Buffer] = None) -> None:
-        """Replaces a ciphertext in a writable buffer by its text. The tag of 16 bytes is not part of the ciphertext.
+    def open_in_place(self, nonce: Buffer, ciphertext: memoryview, tag: Buffer, *, aad: Optional[Buffer] = None) -> None:
+        """Replaces the ciphertext that a memoryview shows by its text. The tag of 16 bytes is not part of the ciphertext.
 
         InvalidTag if they are not a sealing under this key, nonce and associated data. After this and any other exception
-        the buffer holds the ciphertext. ValueError if the tag is not 16 bytes long.
+        the ciphertext is as it was. ValueError if the tag is not 16 bytes long; TypeError and Overlap as in seal_in_place.
         """
-        expected = _tag(tag)
-        with _view(ciphertext) as view:
-            _check(lib.aeadkit_open_in_place_with(self._get(), *_in(nonce), *_place(view), *_in(_aad(aad)), expected))
+        struct = self._get()
+        _done(lib.open_in_place(struct.memory, nonce, ciphertext, tag, aad))
 
     def sealer(self, nonce: Buffer, *, aad: Optional[Buffer] = None) -> Sealer:
         """Begins a sealing in pieces under ChaCha20-Poly1305 or AES-GCM. The Key may be closed before the sealing ends.
 
         ValueError under AES-GCM-SIV, which reads the text twice: see siv_sealer.
         """
-        sealer, struct = Sealer.__new__(Sealer), self._get()
-        sealer._struct = _Struct(lib.SEALER, struct.suite, lib.aeadkit_sealer_init_with, struct, *_in(nonce, _aad(aad)))
-        return sealer
+        return self._begin(Sealer.__new__(Sealer), lib.sealer_init, nonce, aad)
 
     def opener(self, nonce: Buffer, tag: Buffer, *, aad: Optional[Buffer] = None) -> Opener:
         """Begins an opening in pieces under any suite. `tag` is the last 16 bytes of the sealing. The Key may be closed before
         the opening ends."""
-        opener, struct = Opener.__new__(Opener), self._get()
-        opener._struct = _Struct(lib.OPENER, struct.suite, lib.aeadkit_opener_init_with, struct, *_in(nonce, _aad(aad)),
-                                 _tag(tag))
-        return opener
+        return self._begin(Opener.__new__(Opener), lib.opener_init, nonce, tag, aad)
 
     def siv_sealer(self, nonce: Buffer, *, aad: Optional[Buffer] = None) -> SivSealer:
         """Begins a sealing in pieces under AES-GCM-SIV. ValueError under another suite. The Key may be closed before the sealing
         ends."""
-        sealer, struct = SivSealer.__new__(SivSealer), self._get()
-        sealer._struct = _Struct(lib.SIV, struct.suite, lib.aeadkit_siv_init_with, struct, *_in(nonce, _aad(aad)))
-        return sealer
+        return self._begin(SivSealer.__new__(SivSealer), lib.siv_init, nonce, aad)
+
+    def _begin(self, state: _State, call: Callable[..., Any], *words: Optional[Buffer]) -> _State:
+        struct = self._get()
+        state._struct = _Struct(struct.suite, _done(call(struct.memory, *words)))
+        return state
 
 
 class _InPieces(_HasStruct):
     """A struct that each call changes: it takes one call at a time, in the process that began it."""
 
-    def _call(self, call: Callable[..., int], *words: Any) -> int:
+    def _call(self, call: Callable[..., Any], *words: Buffer) -> Any:
         struct = self._get()
         if struct.process != os.getpid():
             raise StateError(f"this {type(self).__name__} belongs to the process that this one was forked from")
         with struct.lock:
-            return call(struct, *words)
+            return _done(call(struct.memory, *words))
 
-    def _update(self, call: Callable[..., int], piece: Buffer) -> bytes:
-        data = _bytes(piece)
-        output = _new_bytes(None, len(data))
-        _copy(output, data, len(data))
-        _check(self._call(call, output, len(data)))
-        return output
 
-    def _update_in_place(self, call: Callable[..., int], piece: Buffer) -> None:
-        with _view(piece) as view:
-            _check(self._call(call, *_place(view)))
-
-    def _get_tag(self, call: Callable[..., int]) -> bytes:
-        tag = ctypes.create_string_buffer(_TAG_BYTES)
-        _check(self._call(call, tag))
-        return tag.raw
+_State = TypeVar("_State", bound=_InPieces)
 
 
 class Sealer(_InPieces):
@@ -340,21 +292,21 @@ class Sealer(_InPieces):
     """
 
     def __init__(self, suite: int, key: Buffer, nonce: Buffer, *, aad: Optional[Buffer] = None) -> None:
-        member = _suite(suite)
-        self._struct = _Struct(lib.SEALER, member, lib.aeadkit_sealer_init, member, *_in(key, nonce, _aad(aad)))
+        with Key(suite, key) as kept:
+            kept._begin(self, lib.sealer_init, nonce, aad)
 
     def update(self, piece: Buffer) -> bytes:
         """Returns the ciphertext of the next piece of the text, which may have any length. ValueError if the whole text would
         be longer than `suite.text_limit`."""
-        return self._update(lib.aeadkit_sealer_update, piece)
+        return self._call(lib.sealer_update, piece)
 
-    def update_in_place(self, piece: Buffer) -> None:
-        """Replaces the next piece of the text, in a writable buffer, by its ciphertext."""
-        self._update_in_place(lib.aeadkit_sealer_update, piece)
+    def update_in_place(self, piece: memoryview) -> None:
+        """Replaces the next piece of the text, which a memoryview shows, by its ciphertext."""
+        self._call(lib.sealer_update_in_place, piece)
 
     def finish(self) -> bytes:
         """Ends the sealing, wipes its struct, and returns the tag of 16 bytes."""
-        return self._get_tag(lib.aeadkit_sealer_finish)
+        return self._call(lib.sealer_finish)
 
 
 class Opener(_InPieces):
@@ -369,31 +321,31 @@ class Opener(_InPieces):
     """
 
     def __init__(self, suite: int, key: Buffer, nonce: Buffer, tag: Buffer, *, aad: Optional[Buffer] = None) -> None:
-        member = _suite(suite)
-        self._struct = _Struct(lib.OPENER, member, lib.aeadkit_opener_init, member, *_in(key, nonce, _aad(aad)), _tag(tag))
+        with Key(suite, key) as kept:
+            kept._begin(self, lib.opener_init, nonce, tag, aad)
 
     def check(self, piece: Buffer) -> None:
         """Takes the next piece of the ciphertext in the first pass, which may have any length."""
-        _check(self._call(lib.aeadkit_opener_check, *_in(piece)))
+        self._call(lib.opener_check, piece)
 
     def begin_second(self) -> None:
         """Ends the first pass and begins the second. InvalidTag if the pieces and the tag are not a sealing, which ends the
         opening and wipes its struct."""
-        _check(self._call(lib.aeadkit_opener_begin_second))
+        self._call(lib.opener_begin_second)
 
     def update(self, piece: Buffer) -> bytes:
         """Returns the text of the next piece of the ciphertext in the second pass. SourceChanged if the second pass would be
         longer than the first."""
-        return self._update(lib.aeadkit_opener_update, piece)
+        return self._call(lib.opener_update, piece)
 
-    def update_in_place(self, piece: Buffer) -> None:
-        """Replaces the next piece of the ciphertext, in a writable buffer, by its text, in the second pass."""
-        self._update_in_place(lib.aeadkit_opener_update, piece)
+    def update_in_place(self, piece: memoryview) -> None:
+        """Replaces the next piece of the ciphertext, which a memoryview shows, by its text, in the second pass."""
+        self._call(lib.opener_update_in_place, piece)
 
     def finish(self) -> None:
         """Ends the second pass, and wipes the struct. SourceChanged if its bytes were not those of the first: throw the text
         away."""
-        _check(self._call(lib.aeadkit_opener_finish))
+        self._call(lib.opener_finish)
 
 
 class SivSealer(_InPieces):
@@ -409,28 +361,28 @@ class SivSealer(_InPieces):
     """
 
     def __init__(self, suite: int, key: Buffer, nonce: Buffer, *, aad: Optional[Buffer] = None) -> None:
-        member = _suite(suite)
-        self._struct = _Struct(lib.SIV, member, lib.aeadkit_siv_init, member, *_in(key, nonce, _aad(aad)))
+        with Key(suite, key) as kept:
+            kept._begin(self, lib.siv_init, nonce, aad)
 
     def absorb(self, piece: Buffer) -> None:
         """Takes the next piece of the text in the first pass, which may have any length. ValueError if the whole text would be
         longer than `suite.text_limit`."""
-        _check(self._call(lib.aeadkit_siv_absorb, *_in(piece)))
+        self._call(lib.siv_absorb, piece)
 
     def begin_second(self) -> bytes:
         """Ends the first pass and begins the second, and returns the tag of 16 bytes."""
-        return self._get_tag(lib.aeadkit_siv_begin_second)
+        return self._call(lib.siv_begin_second)
 
     def update(self, piece: Buffer) -> bytes:
         """Returns the ciphertext of the next piece of the text in the second pass. SourceChanged if the second pass would be
         longer than the first."""
-        return self._update(lib.aeadkit_siv_update, piece)
+        return self._call(lib.siv_update, piece)
 
-    def update_in_place(self, piece: Buffer) -> None:
-        """Replaces the next piece of the text, in a writable buffer, by its ciphertext, in the second pass."""
-        self._update_in_place(lib.aeadkit_siv_update, piece)
+    def update_in_place(self, piece: memoryview) -> None:
+        """Replaces the next piece of the text, which a memoryview shows, by its ciphertext, in the second pass."""
+        self._call(lib.siv_update_in_place, piece)
 
     def finish(self) -> None:
         """Ends the second pass, and wipes the struct. SourceChanged if its text was not that of the first: throw the ciphertext
         away."""
-        _check(self._call(lib.aeadkit_siv_finish))
+        self._call(lib.siv_finish)

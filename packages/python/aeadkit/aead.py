@@ -10,7 +10,7 @@ from __future__ import annotations
 
 from typing import TYPE_CHECKING, Optional
 
-from . import InvalidTag, Key, Suite, _bytes
+from . import InvalidTag, Key, Suite
 
 if TYPE_CHECKING:
     from _typeshed import ReadableBuffer as Buffer
@@ -22,10 +22,12 @@ class _Aead:
     _suites: dict[int, Suite]
 
     def __init__(self, key: Buffer) -> None:
-        data = _bytes(key)
-        if len(data) not in self._suites:
-            raise ValueError(f"{type(self).__name__} key must be {' or '.join(map(str, self._suites))} bytes long")
-        self._key = Key(self._suites[len(data)], data)
+        with memoryview(key) as view:
+            if view.itemsize != 1:
+                raise TypeError(f"bytes are required, not the items of {type(key).__name__!r}")
+            if view.nbytes not in self._suites:
+                raise ValueError(f"{type(self).__name__} key must be {' or '.join(map(str, self._suites))} bytes long")
+            self._key = Key(self._suites[view.nbytes], key)
 
     def encrypt(self, nonce: Buffer, data: Buffer, associated_data: Optional[Buffer] = None) -> bytes:
         """Returns the ciphertext of the data, followed by the tag of 16 bytes."""

@@ -6,10 +6,9 @@ wrappings. InvalidUnwrap is a class of this package, so import it from here too.
 
 from __future__ import annotations
 
-import ctypes
 from typing import TYPE_CHECKING, Any, Callable
 
-from . import InvalidUnwrap, _bytes, _in, _library as lib, _new_bytes
+from . import InvalidUnwrap, lib
 
 if TYPE_CHECKING:
     from _typeshed import ReadableBuffer as Buffer
@@ -17,40 +16,31 @@ if TYPE_CHECKING:
 __all__ = ["InvalidUnwrap", "aes_key_unwrap", "aes_key_unwrap_with_padding", "aes_key_wrap", "aes_key_wrap_with_padding"]
 
 
-def _run(call: Callable[..., int], key: Buffer, data: bytes, length: int, fault: Exception, *after: Any) -> bytes:
+def _run(call: Callable[..., Any], wrapping_key: Buffer, data: Buffer, fault: Exception) -> bytes:
     """The output of a call, or the fault."""
-    output = _new_bytes(None, length)
-    status = call(*_in(key, data), output, length, *after)
-    if status == 1:
-        raise ValueError("the wrapping key is not 16, 24 or 32 bytes long")
-    if status:
-        raise fault
-    return output
+    result = call(wrapping_key, data)
+    if type(result) is bytes:
+        return result
+    raise ValueError("the wrapping key is not 16, 24 or 32 bytes long") if result[0] == 1 else fault
 
 
 def aes_key_wrap(wrapping_key: Buffer, key_to_wrap: Buffer) -> bytes:
     """Wraps a key whose length is a multiple of 8 and at least 16 (RFC 3394), or raises ValueError."""
-    data = _bytes(key_to_wrap)
     fault = ValueError("the length of the key to wrap is not a multiple of 8, or less than 16")
-    return _run(lib.aeadkit_wrap, wrapping_key, data, len(data) + 8, fault)
+    return _run(lib.wrap, wrapping_key, key_to_wrap, fault)
 
 
 def aes_key_unwrap(wrapping_key: Buffer, wrapped_key: Buffer) -> bytes:
     """Returns the key that aes_key_wrap wrapped, or raises InvalidUnwrap."""
-    data = _bytes(wrapped_key)
-    return _run(lib.aeadkit_unwrap, wrapping_key, data, max(len(data) - 8, 0), InvalidUnwrap("not a valid wrapping"))
+    return _run(lib.unwrap, wrapping_key, wrapped_key, InvalidUnwrap("not a valid wrapping"))
 
 
 def aes_key_wrap_with_padding(wrapping_key: Buffer, key_to_wrap: Buffer) -> bytes:
     """Wraps a key of 1 to 2**32 - 1 bytes (RFC 5649), or raises ValueError."""
-    data = _bytes(key_to_wrap)
     fault = ValueError("the key to wrap is empty, or longer than 2**32 - 1 bytes")
-    return _run(lib.aeadkit_wrap_padded, wrapping_key, data, len(data) + -len(data) % 8 + 8, fault)
+    return _run(lib.wrap_padded, wrapping_key, key_to_wrap, fault)
 
 
 def aes_key_unwrap_with_padding(wrapping_key: Buffer, wrapped_key: Buffer) -> bytes:
     """Returns the key that aes_key_wrap_with_padding wrapped, or raises InvalidUnwrap."""
-    data, length = _bytes(wrapped_key), ctypes.c_size_t()
-    padded = _run(lib.aeadkit_unwrap_padded, wrapping_key, data, max(len(data) - 8, 0),
-                  InvalidUnwrap("not a valid wrapping"), length)
-    return padded[: length.value]
+    return _run(lib.unwrap_padded, wrapping_key, wrapped_key, InvalidUnwrap("not a valid wrapping"))

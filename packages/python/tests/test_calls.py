@@ -5,7 +5,8 @@ import mmap
 import unittest
 
 import aeadkit
-from aeadkit import InvalidTag, InvalidUnwrap, Key, Opener, Sealer, SivSealer, SourceChanged, StateError, Suite, aead, keywrap
+from aeadkit import (InvalidTag, InvalidUnwrap, Key, Opener, Overlap, Refused, Sealer, SivSealer, SourceChanged, StateError, Suite,
+                     aead, keywrap)
 
 KEY = bytes(range(32))
 NONCE = bytes(range(12))
@@ -40,7 +41,7 @@ class Arguments(unittest.TestCase):
         for other in ("text", 16, None, [1, 2], key, array.array("i", [1, 2]), array.array("d", [1.0])):
             for call in (lambda: key.seal(NONCE, other), lambda: key.seal(other, TEXT), lambda: key.open(NONCE, other),
                          lambda: Key(GCM, other), lambda: key.seal_in_place(NONCE, other), lambda: key.sealer(other),
-                         lambda: key.open_in_place(NONCE, bytearray(16), other), lambda: key.opener(NONCE, other),
+                         lambda: key.open_in_place(NONCE, memoryview(bytearray(16)), other), lambda: key.opener(NONCE, other),
                          lambda: key.sealer(NONCE).update(other), lambda: key.sealer(NONCE).update_in_place(other),
                          lambda: key.opener(NONCE, TAG).check(other), lambda: aead.AESGCM(other),
                          lambda: keywrap.aes_key_wrap(other, KEY), lambda: keywrap.aes_key_unwrap(KEY, other)):
@@ -73,7 +74,7 @@ class Faults(unittest.TestCase):
             self.assertRaisesRegex(ValueError, message, call)
 
     def test_wrong_lengths_and_suites(self):
-        key, siv, buffer, peer = Key(GCM, KEY), Key(SIV, KEY), bytearray(TEXT), aead.AESGCM(KEY)
+        key, siv, buffer, peer = Key(GCM, KEY), Key(SIV, KEY), memoryview(bytearray(TEXT)), aead.AESGCM(KEY)
         for nonce in (b"", bytes(11), bytes(13), bytes(16)):
             self.refused("nonce is not 12 bytes", lambda: key.seal(nonce, TEXT), lambda: key.open(nonce, SEALED),
                          lambda: key.seal_in_place(nonce, buffer), lambda: key.open_in_place(nonce, buffer, TAG),
@@ -92,8 +93,10 @@ class Faults(unittest.TestCase):
         for suite in (0, 7, -1, 2**32 + 1, 2**70):
             self.refused("is not a valid Suite", lambda: Key(suite, KEY), lambda: Sealer(suite, KEY, NONCE),
                          lambda: Opener(suite, KEY, NONCE, TAG), lambda: SivSealer(suite, KEY, NONCE))
-        self.refused("does not take this suite", lambda: key.siv_sealer(NONCE), lambda: siv.sealer(NONCE),
+        self.refused("siv_sealer and SivSealer are for AES-GCM-SIV", lambda: key.siv_sealer(NONCE), lambda: siv.sealer(NONCE),
                      lambda: Sealer(SIV, KEY, NONCE), lambda: SivSealer(GCM, KEY, NONCE))
+        self.refused("one of chacha20-poly1305, aes-128-gcm,", *[lambda: Suite.named(name) for name in ("", "AES-128-GCM", 4)])
+        self.assertEqual([Suite.named(suite.name.lower().replace("_", "-")) for suite in Suite], list(Suite))
         for name, length in (("AESGCM", 20), ("AESGCMSIV", 24), ("ChaCha20Poly1305", 16)):
             self.refused(name, lambda: getattr(aead, name)(bytes(length)))
         self.assertEqual(buffer, TEXT)
@@ -103,18 +106,19 @@ class Faults(unittest.TestCase):
         self.assertEqual([(suite.key_bytes, suite.text_limit, suite.aad_limit) for suite in Suite],
                          [(32, 2**38 - 64, 2**64 - 1), (16, 2**36 - 32, 2**61 - 1), (24, 2**36 - 32, 2**61 - 1),
                           (32, 2**36 - 32, 2**61 - 1), (16, 2**36, 2**36), (32, 2**36, 2**36)])
-        self.refused("the text is longer", lambda: aeadkit._check(3))
-        self.refused("the associated data is longer", lambda: aeadkit._check(4))
+        self.refused("the text is longer", lambda: aeadkit._done((3, b"")))
+        self.refused("the associated data is longer", lambda: aeadkit._done((4, b"")))
 
     def test_not_a_sealing(self):
         key = Key(GCM, KEY)
         for sealed in (b"", TAG[1:], TAG, SEALED[:-1], SEALED + b"x", CIPHERTEXT):
             self.assertRaises(InvalidTag, key.open, NONCE, sealed, aad=b"aad")
             self.assertRaises(InvalidTag, aead.AESGCM(KEY).decrypt, NONCE, sealed, b"aad")
-        self.assertFalse(issubclass(InvalidTag, ValueError) or issubclass(InvalidUnwrap, ValueError))
+        for fault in (InvalidTag, InvalidUnwrap, Overlap, SourceChanged, StateError):
+            self.assertEqual(fault.__bases__, (Refused,))
 
     def test_in_place(self):
-        """A part of a buffer is changed, and nothing else of it. What cannot be changed is a TypeError."""
+        """What a memoryview shows is changed, and nothing else. A copy and what cannot be changed are TypeErrors."""
         for suite in Suite:
             key, buffer = Key(suite, KEY[: suite.key_bytes]), bytearray(b"head" + TEXT)
             with memoryview(buffer) as view:
@@ -126,21 +130,30 @@ class Faults(unittest.TestCase):
                 key.open_in_place(NONCE, view[4:], tag, aad=b"aad")
                 self.assertEqual(buffer, b"head" + TEXT)
                 self.assertRaises(TypeError, key.seal_in_place, NONCE, view[::2])
-            self.assertRaises(TypeError, key.seal_in_place, NONCE, TEXT)
-            self.assertRaises(TypeError, key.open_in_place, NONCE, ciphertext, tag, aad=b"aad")
-            self.assertEqual(key.seal_in_place(NONCE, bytearray()), key.seal(NONCE, b""))
+                tag = key.seal_in_place(NONCE, view[4:], aad=view[:4])
+                self.assertEqual(buffer + tag, b"head" + key.seal(NONCE, TEXT, aad=b"head"))
+                key.open_in_place(NONCE, view[4:], tag, aad=view[:4])
+                for words in ((view[:12], view[4:]), (view[-12:], view)):
+                    self.assertRaises(Overlap, key.seal_in_place, *words)
+                    self.assertRaises(Overlap, key.open_in_place, *words, TAG)
+                for aad in (view, view[:5], view[-1:]):
+                    self.assertRaises(Overlap, key.seal_in_place, NONCE, view[4:], aad=aad)
+                    self.assertRaises(Overlap, key.open_in_place, NONCE, view[4:], TAG, aad=aad)
+                self.assertRaises(Overlap, key.open_in_place, NONCE, view[4:], view[-16:])
+                self.assertEqual(buffer, b"head" + TEXT)
+            for text in (TEXT, memoryview(TEXT), buffer, buffer[4:], array.array("B", TEXT), memoryview(array.array("i", [1]))):
+                self.assertRaises(TypeError, key.seal_in_place, NONCE, text)
+                self.assertRaises(TypeError, key.open_in_place, NONCE, text, tag, aad=b"aad")
+            self.assertEqual(key.seal_in_place(NONCE, memoryview(bytearray())), key.seal(NONCE, b""))
+            del words, aad
             buffer.append(0)  # no call holds the buffer any more
 
     def test_a_refused_opening_leaves_zeros(self):
         """The output is dropped, so the test takes it where it is made."""
-        outputs, new_bytes = [], aeadkit._new_bytes
-        self.addCleanup(setattr, aeadkit, "_new_bytes", new_bytes)
-        aeadkit._new_bytes = lambda data, length: outputs.append(new_bytes(data, length)) or outputs[-1]
         for suite in Suite:
             key = Key(suite, KEY[: suite.key_bytes])
             sealed = key.seal(NONCE, TEXT)
-            self.assertRaises(InvalidTag, key.open, NONCE, sealed, aad=b"other")
-            self.assertEqual(outputs[-1], bytes(len(TEXT)))
+            self.assertEqual(aeadkit.lib.open(key._struct.memory, NONCE, sealed, b"other"), (6, bytes(len(TEXT))))
 
     def test_key_wrap(self):
         for size in (0, 1, 8, 15, 17, 20):
@@ -164,7 +177,7 @@ class Order(unittest.TestCase):
             self.assertRaises(StateError, call, *words)
 
     def test_sealer(self):
-        sealer, piece = Sealer(GCM, KEY, NONCE, aad=b"aad"), bytearray(TEXT[10:])
+        sealer, piece = Sealer(GCM, KEY, NONCE, aad=b"aad"), memoryview(bytearray(TEXT[10:]))
         made = sealer.update(TEXT[:10])
         self.assertRaises(TypeError, sealer.update, "text")
         sealer.update_in_place(piece)
@@ -174,7 +187,7 @@ class Order(unittest.TestCase):
         self.assertEqual(piece, made[10:])
 
     def test_opener(self):
-        opener, piece = Opener(GCM, KEY, NONCE, TAG, aad=b"aad"), bytearray(CIPHERTEXT)
+        opener, piece = Opener(GCM, KEY, NONCE, TAG, aad=b"aad"), memoryview(bytearray(CIPHERTEXT))
         opener.check(CIPHERTEXT[:7])
         self.refused((opener.update, CIPHERTEXT), (opener.update_in_place, piece), (opener.finish,))
         opener.check(CIPHERTEXT[7:])
@@ -184,13 +197,13 @@ class Order(unittest.TestCase):
         text = opener.update(CIPHERTEXT[:3])
         self.assertRaises(SourceChanged, opener.update_in_place, piece)
         self.assertEqual(piece, CIPHERTEXT)
-        opener.update_in_place(memoryview(piece)[3:])
-        self.assertEqual(text + piece[3:], TEXT)
+        opener.update_in_place(piece[3:])
+        self.assertEqual(text + bytes(piece[3:]), TEXT)
         opener.finish()
         self.refused((opener.check, b""), (opener.begin_second,), (opener.update, b""), (opener.finish,))
 
     def test_siv_sealer(self):
-        siv, piece = SivSealer(SIV, KEY, NONCE, aad=b"aad"), bytearray(TEXT)
+        siv, piece = SivSealer(SIV, KEY, NONCE, aad=b"aad"), memoryview(bytearray(TEXT))
         siv.absorb(TEXT[:7])
         self.refused((siv.update, TEXT), (siv.update_in_place, piece), (siv.finish,))
         siv.absorb(TEXT[7:])
@@ -199,7 +212,7 @@ class Order(unittest.TestCase):
         self.assertRaises(SourceChanged, siv.update, TEXT + b"x")
         siv.update_in_place(piece)
         siv.finish()
-        self.assertEqual(piece + tag, Key(SIV, KEY).seal(NONCE, TEXT, aad=b"aad"))
+        self.assertEqual(bytes(piece) + tag, Key(SIV, KEY).seal(NONCE, TEXT, aad=b"aad"))
         self.refused((siv.absorb, b""), (siv.begin_second,), (siv.update, b""), (siv.finish,))
 
     def test_a_refusal_ends_the_state(self):

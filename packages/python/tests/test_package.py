@@ -1,4 +1,4 @@
-"""The help, the README and the examples; the library that is loaded; and the wheel."""
+"""The help, the README and the examples; and the wheel."""
 
 import doctest
 import os
@@ -10,12 +10,12 @@ import sys
 import tempfile
 import unittest
 import zipfile
+from importlib.util import find_spec
 
 import aeadkit
-from aeadkit import _library
+from test_pyca import left_out
 
 FOLDER = pathlib.Path(__file__).resolve().parents[1]
-SIZES = {"key": 808, "sealer": 144, "opener": 192, "siv": 192}
 
 
 def run(*words, folder=None, data=b"", **environment):
@@ -67,76 +67,48 @@ class Documents(unittest.TestCase):
             self.assertIn(b"KEYFILE is not 32 bytes long", segments("seal", b"text").stderr)
 
 
-class Library(unittest.TestCase):
+class Build(unittest.TestCase):
     def setUp(self):
-        """A copy of the package, without a library."""
         folder = tempfile.TemporaryDirectory()
         self.addCleanup(folder.cleanup)
         self.folder = pathlib.Path(folder.name)
-        (self.folder / "aeadkit/lib").mkdir(parents=True)
-        for file in pathlib.Path(aeadkit.__file__).parent.glob("*.py"):
-            shutil.copy(file, self.folder / "aeadkit")
-        self.file = self.folder / "aeadkit/lib/libaeadkit.so"
 
-    def build(self, version=30000, **sizes):
-        source = f"unsigned aeadkit_version(void) {{ return {version}; }}\n" if version else "int nothing;\n"
-        for name, size in {**SIZES, **sizes}.items():
-            source += f"unsigned long aeadkit_{name}_size(void) {{ return {size}; }} void aeadkit_{name}_wipe(void) {{ }}\n"
-        subprocess.run(["cc", "-shared", "-fPIC", "-x", "c", "-", "-o", self.file], input=source.encode(), check=True)
+    def wheel(self, name, **environment):
+        """A wheel that is built in a copy of this folder."""
+        copy = self.folder / name
+        shutil.copytree(FOLDER, copy, ignore=shutil.ignore_patterns("build", "*.egg-info", "*.so"))
+        made = run("setup.py", "-q", "bdist_wheel", folder=copy, SOURCE_DATE_EPOCH="400000000", **environment)
+        return made, list(copy.glob("dist/*.whl"))
 
-    def refused(self, *parts, **environment):
-        made = run("-c", "import aeadkit", folder=self.folder, **environment)
-        last = made.stderr.decode().splitlines()[-1]
-        self.assertTrue(last.startswith("ImportError: "), last)
-        for part in parts:
-            self.assertIn(part, last)
-
-    def test_the_version(self):
-        self.assertRegex(aeadkit.__version__, r"^3\.[0-9]+\.[0-9]+$")
-
-    def test_no_library(self):
-        self.refused("install the wheel", "AEADKIT_PREFIX", AEADKIT_PREFIX="")
-        self.refused("/nowhere/lib/libaeadkit.so", "AEADKIT_PREFIX", AEADKIT_PREFIX="/nowhere")
-        self.file.write_bytes(b"not a library")
-        self.refused(str(self.file))
-
-    @unittest.skipUnless(shutil.which("cc"), "there is no cc to build a library with")
-    def test_a_library_that_does_not_fit(self):
-        for version, text in ((29999, "2.99.99"), (40000, "4.0.0"), (1, "0.0.1")):
-            self.build(version)
-            self.refused(str(self.file), text)
-        self.build(None)
-        self.refused(str(self.file), "aeadkit_version")
-        for name, size in SIZES.items():
-            self.build(**{name: size + 8})
-            self.refused(str(self.file), f"aeadkit_{name} of {size + 8} bytes", str(size))
-
-
-class Wheel(unittest.TestCase):
     def test_the_wheel(self):
-        with tempfile.TemporaryDirectory() as folder:
-            for lib in ("lib", "lib/glibc-hwcaps/x86-64-v3"):
-                pathlib.Path(folder, lib).mkdir(parents=True)
-                shutil.copy(_library._file, pathlib.Path(folder, lib, "libaeadkit.so"))
-            made = run(FOLDER / "backend.py", folder, AEADKIT_PREFIX=folder)
-            name, site, version = made.stdout.decode().strip(), pathlib.Path(folder, "site"), aeadkit.__version__
-            self.assertRegex(name, rf"^aeadkit-{re.escape(version)}-py3-none-manylinux_2_\d+_x86_64", made.stderr)
-            with zipfile.ZipFile(pathlib.Path(folder, name)) as wheel:
-                wheel.extractall(site)
-                files = set(wheel.namelist())
-            info = site / f"aeadkit-{version}.dist-info"
-            self.assertLess({f"aeadkit/{file}" for file in (
-                "__init__.py", "_library.py", "aead.py", "keywrap.py", "py.typed", "lib/libaeadkit.so",
-                "lib/x86-64-v3/libaeadkit.so")}, files)
-            head, _, readme = (info / "METADATA").read_text().partition("\n\n")
-            self.assertIn(f"\nVersion: {version}\n", head)
-            self.assertEqual(readme, (FOLDER / "README.md").read_text())
-            self.assertEqual({line.split(",")[0] for line in (info / "RECORD").read_text().splitlines()}, files)
-            used = run("-c", "import aeadkit; print(aeadkit._library._file)", folder=site, AEADKIT_PREFIX="")
-            self.assertIn(f"{site}/aeadkit/lib/", used.stdout.decode())
+        if not (find_spec("wheel") or find_spec("setuptools.command.bdist_wheel")) or "AEADKIT_PREFIX" not in os.environ:
+            raise left_out("the wheel: there is no module wheel, or AEADKIT_PREFIX is not set")
+        (made, [file]), (_, [again]) = self.wheel("one"), self.wheel("two")
+        version, site = aeadkit.__version__, self.folder / "site"
+        self.assertRegex(file.name, rf"^aeadkit-{re.escape(version)}-cp311-abi3-linux_", made.stderr)
+        self.assertEqual(file.read_bytes(), again.read_bytes())
+        with zipfile.ZipFile(file) as wheel:
+            wheel.extractall(site)
+            files = {name for name in wheel.namelist() if name.startswith("aeadkit/")}
+        modules = {name for name in files if name.endswith(".abi3.so")}
+        self.assertLessEqual(modules, {"aeadkit/_library.abi3.so", "aeadkit/_library_v3.abi3.so"})
+        self.assertEqual(files - modules, {f"aeadkit/{name}" for name in ("__init__.py", "aead.py", "keywrap.py", "py.typed")})
+        for name in modules:  # pip takes a wheel for manylinux_2_17 on every system that has this glibc or a newer one
+            symbols = re.findall(rb"\0GLIBC_2\.(\d+)", (site / name).read_bytes())
+            self.assertTrue(symbols and max(map(int, symbols)) <= 17, symbols)
+        head, _, readme = (site / f"aeadkit-{version}.dist-info/METADATA").read_text().partition("\n\n")
+        self.assertIn(f"\nVersion: {version}\n", head)
+        self.assertEqual(readme, (FOLDER / "README.md").read_text())
+        used = run("-c", "import aeadkit; print(aeadkit.lib.__file__)", folder=site)
+        self.assertIn(f"{site}/aeadkit/_library", used.stdout.decode())
 
     def test_without_a_library(self):
-        for prefix in ("", "/nowhere"):
-            made = run(FOLDER / "backend.py", "/nowhere", AEADKIT_PREFIX=prefix)
-            self.assertEqual(made.returncode, 1)
+        for number, prefix in enumerate(("", "/nowhere")):
+            made, wheels = self.wheel(str(number), AEADKIT_PREFIX=prefix)
+            self.assertEqual((made.returncode, wheels), (1, []))
             self.assertRegex(made.stderr.decode(), "^aeadkit: .*AEADKIT_PREFIX.*\n$")
+
+
+class Version(unittest.TestCase):
+    def test_the_version(self):
+        self.assertRegex(aeadkit.__version__, r"^3\.[0-9]+\.[0-9]+$")

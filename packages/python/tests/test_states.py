@@ -22,7 +22,7 @@ LONG = 2 << 20  # a call over so many bytes takes long enough for another thread
 def states():
     """A state of each kind, with the names of its calls and their arguments."""
     key, siv = Key(CHACHA, KEY), Key(SIV, KEY)
-    last = ("update", b"piece"), ("update_in_place", bytearray(5)), ("finish",)
+    last = ("update", b"piece"), ("update_in_place", memoryview(bytearray(5))), ("finish",)
     opener, siv_sealer = (("check", b"piece"), ("begin_second",), *last), (("absorb", b"piece"), ("begin_second",), *last)
     return [(Sealer(GCM, KEY, NONCE), last), (key.sealer(NONCE), last), (Opener(GCM, KEY, NONCE, TAG), opener),
             (key.opener(NONCE, TAG), opener), (SivSealer(SIV, KEY, NONCE), siv_sealer), (siv.siv_sealer(NONCE), siv_sealer)]
@@ -30,8 +30,9 @@ def states():
 
 def keys():
     """A key of each suite, with the names of its calls and their arguments."""
-    calls = (("seal", NONCE, b"text"), ("open", NONCE, bytes(20)), ("seal_in_place", NONCE, bytearray(5)),
-             ("open_in_place", NONCE, bytearray(5), TAG), ("sealer", NONCE), ("opener", NONCE, TAG), ("siv_sealer", NONCE))
+    calls = (("seal", NONCE, b"text"), ("open", NONCE, bytes(20)), ("seal_in_place", NONCE, memoryview(bytearray(5))),
+             ("open_in_place", NONCE, memoryview(bytearray(5)), TAG), ("sealer", NONCE), ("opener", NONCE, TAG),
+             ("siv_sealer", NONCE))
     return [(Key(suite, KEY[: suite.key_bytes]), calls) for suite in Suite]
 
 
@@ -60,7 +61,7 @@ class Threads(unittest.TestCase):
             self.assertTrue(sorted(made) == halves)
             self.assertEqual(sealer.finish(), expected[-16:])
             sealer, pieces = key.sealer(NONCE), [bytearray(LONG), bytearray(LONG)]
-            at_once(*[lambda piece=piece: sealer.update_in_place(piece) for piece in pieces])
+            at_once(*[lambda piece=piece: sealer.update_in_place(memoryview(piece)) for piece in pieces])
             self.assertTrue(sorted(map(bytes, pieces)) == halves)
             self.assertEqual(sealer.finish(), expected[-16:])
 
@@ -72,6 +73,27 @@ class Threads(unittest.TestCase):
 
             with ThreadPoolExecutor(8) as pool:
                 self.assertTrue(all(pool.map(round_trip, range(100))))
+
+    def test_other_threads_run_during_a_call_and_it_holds_its_buffers(self):
+        """Only while a call runs, a bytearray that it reads cannot be made longer."""
+        key, text = Key(CHACHA, KEY), bytearray(LONG)
+        opener = key.opener(NONCE, TAG)
+        for call in (lambda: key.seal(NONCE, text), lambda: key.seal(NONCE, b"", aad=text), lambda: opener.check(text),
+                     lambda: key.seal_in_place(NONCE, memoryview(text)), lambda: key.sealer(NONCE).update(text)):
+            refused = False
+            for _ in range(100):
+                thread = threading.Thread(target=call)
+                thread.start()
+                while thread.is_alive() and not refused:
+                    try:
+                        text.append(0)
+                        text.pop()
+                    except BufferError:
+                        refused = True
+                thread.join()
+                if refused:
+                    break
+            self.assertTrue(refused)
 
     def test_a_signal_handler_may_call_too(self):
         """It interrupts a thread that may hold the lock."""
@@ -92,7 +114,7 @@ class Closing(unittest.TestCase):
         for end in (lambda held: held[0].close(), leave, leave_by_an_exception, list.clear):
             for number in range(len(keys() + states())):
                 held = [(keys() + states())[number][0]]
-                memory = held[0]._struct._memory
+                memory = held[0]._struct.memory
                 self.assertNotEqual(bytes(memory), bytes(len(bytes(memory))))
                 end(held)
                 self.assertEqual(bytes(memory), bytes(len(bytes(memory))))
@@ -119,7 +141,7 @@ class Closing(unittest.TestCase):
 
         for _ in range(5):
             key = Key(CHACHA, KEY)
-            sealer, memory = key.sealer(NONCE), key._struct._memory
+            sealer, memory = key.sealer(NONCE), key._struct.memory
             whole, piece, _ = at_once(lambda: or_closed(key.seal, NONCE, text), lambda: or_closed(sealer.update, text),
                                       lambda: (time.sleep(0.002), key.close(), sealer.close()))
             self.assertTrue(whole in (None, expected) and piece in (None, expected[:-16]))

@@ -78,7 +78,7 @@ class Vectors(unittest.TestCase):
         self.assertEqual(suites, set(Suite))
 
     def agrees(self, suite, raw_key, nonce, aad, sealed, text):
-        key, peer, buffer = Key(suite, raw_key), CLASSES[suite](raw_key), bytearray(text)
+        key, peer, buffer = Key(suite, raw_key), CLASSES[suite](raw_key), memoryview(bytearray(text))
         self.assertEqual(key.seal(nonce, text, aad=aad), sealed)
         self.assertEqual(key.open(nonce, sealed, aad=aad), text)
         self.assertEqual(peer.encrypt(nonce, text, aad), sealed)
@@ -102,7 +102,7 @@ class Vectors(unittest.TestCase):
         self.assertRaises(InvalidTag, key.open, nonce, sealed, aad=aad)
         self.assertRaises(InvalidTag, CLASSES[suite](raw_key).decrypt, nonce, sealed, aad)
         if len(tag) == 16:
-            buffer = bytearray(ciphertext)
+            buffer = memoryview(bytearray(ciphertext))
             self.assertRaises(InvalidTag, key.open_in_place, nonce, buffer, tag, aad=aad)
             self.assertEqual(buffer, ciphertext)
             self.assertRaises(InvalidTag, open_in_pieces, key.opener(nonce, tag, aad=aad), ciphertext, 16, 16)
