@@ -1,6 +1,6 @@
 #!/bin/sh
-# What the Makefile runs to build and to pack: lib.sh library|program|wasm|standin|standin-wasm|ready PREFIX, lib.sh dist|missing,
-# or lib.sh same FOLDER FOLDER.
+# What the Makefile runs to build and to pack: lib.sh library|program|wasm|standin|standin-wasm|ready|again PREFIX, lib.sh
+# dist|missing, or lib.sh same FOLDER FOLDER.
 # BUILD is the folder of the copies that are proved. BUILDS names the builds of the library, and PROGRAM that of the program:
 # `default` and `avx2` are for x86-64, and may stand in one prefix, and `aarch64` needs a prefix of its own.
 set -eu
@@ -99,7 +99,7 @@ tools_of_kit() {
     mkdir -p "$llvm"
     echo 'typedef __SIZE_TYPE__ size_t;' > "$llvm/stddef.h"
     for type in uint8 uint32 uint64 uintptr; do
-        echo "typedef __$(echo $type | tr a-z A-Z)_TYPE__ ${type}_t;"
+        echo "typedef __$(echo $type | tr '[:lower:]' '[:upper:]')_TYPE__ ${type}_t;"
     done > "$llvm/stdint.h"
     for name in clang ld.lld llvm-ar llvm-objcopy; do
         ln -sfn "$(kit)/toolchain/bin/clang" "$llvm/$name"
@@ -290,6 +290,8 @@ wheel() (
 # commit gives the same bytes in any folder: what is packed has the time of the commit, one owner and one order.
 dist() {
     needs tar:tar gzip:gzip aarch64-linux-gnu-gcc:gcc-aarch64-linux-gnu cargo:cargo npm:npm wasm-dis:binaryen wasm-as:binaryen
+    "${PYTHON:-python3}" -c 'import setuptools, wheel' 2> /dev/null ||
+        fail "${PYTHON:-python3} has no setuptools and wheel: install python3-setuptools, python3-wheel and python3-dev, or set PYTHON"
     SOURCE_DATE_EPOCH=${SOURCE_DATE_EPOCH:-$(git -C "$top" log -1 --format=%ct 2> /dev/null || true)}
     [ -n "$SOURCE_DATE_EPOCH" ] || fail "there is no commit whose time the packages could have: set SOURCE_DATE_EPOCH to a number of seconds"
     export SOURCE_DATE_EPOCH LC_ALL=C
@@ -328,10 +330,24 @@ same() {
     echo "ok: $(wc -l < "$1/SHA256SUMS") artefacts are the same, byte for byte"
 }
 
+# Builds the default library again, in another folder, and compares it with that in the prefix.
+again() {
+    build=$build/another/folder
+    mkdir -p "$build"
+    copied default
+    proved capi lib
+    linked "$room/crates/capi/out/libcapi.a" "$build/lib" "$build/lib"
+    for file in libaeadkit.a libaeadkit.so; do
+        cmp "$build/lib/$file" "$prefix/lib/$file" || fail "$file is not the same if it is built in another folder"
+    done
+    rm -rf "$build"
+    echo "ok: the library is the same, byte for byte, if it is built in another folder"
+}
+
 command=$1
 prefix=${2:-}
 case $command in
-library | program | wasm | standin | standin-wasm | ready)
+library | program | wasm | standin | standin-wasm | ready | again)
     [ -n "$prefix" ] || fail "give a PREFIX"
     mkdir -p "$prefix"
     prefix=$(cd "$prefix" && pwd) ;;
@@ -346,6 +362,7 @@ standin-wasm) standin_wasm ;;
 ready) ready ;;
 dist) dist ;;
 missing) missing ;;
+again) again ;;
 same) same "$2" "$3" ;;
 *) sed -n '2,5s/^# //p' "$0" >&2; exit 2 ;;
 esac
