@@ -204,6 +204,7 @@ static void begin_with(void) {
 
 static void in_pieces(size_t n, size_t a, uint64_t number) {
     size_t k = key_length(), at = 0;
+    (void)number;
     if (is("sealer_init_with")) {
         begin_with();
         CALL("sealer_init_with", AEADKIT_DONE, aeadkit_sealer_init_with(&sealer, &kept, nonce, 12, aad, a));
