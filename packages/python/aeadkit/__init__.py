@@ -94,12 +94,13 @@ _FAULTS: dict[int, tuple[type[Exception], str]] = {
 }
 
 
-def _done(result: Any) -> Any:
-    """The result of a call, which is a tuple of a status and the output if it was refused."""
+def _done(result: Any) -> bytes:
+    """The output of a call, or the exception for its status if it returned a tuple of the status and the output."""
     if type(result) is tuple:
         fault, message = _FAULTS.get(result[0], (RuntimeError, f"the library returned the status {result[0]}"))
         raise fault(message)
-    return result
+    output: bytes = result
+    return output
 
 
 class Suite(enum.IntEnum):
@@ -123,17 +124,17 @@ class Suite(enum.IntEnum):
     @property
     def key_bytes(self) -> int:
         """The length of a key in bytes."""
-        return _lib.facts(self)[0]
+        return int(_lib.facts(self)[0])
 
     @property
     def text_limit(self) -> int:
         """The length of the longest text in bytes."""
-        return _lib.facts(self)[1]
+        return int(_lib.facts(self)[1])
 
     @property
     def aad_limit(self) -> int:
         """The length of the longest associated data in bytes."""
-        return _lib.facts(self)[2]
+        return int(_lib.facts(self)[2])
 
 
 def _suite(suite: int) -> Suite:
@@ -145,11 +146,11 @@ def _suite(suite: int) -> Suite:
 class _Struct:
     """A struct of the library. It is wiped when neither an object nor a call uses it any more."""
 
-    def __init__(self, suite: Suite, memory: bytearray) -> None:
+    def __init__(self, suite: Suite, memory: Any) -> None:
         self.suite, self.memory, self.process = suite, memory, os.getpid()
         self.lock = threading.RLock()  # not Lock: a signal handler may call while its thread holds it
 
-    def __del__(self, wipe: Callable[[bytearray], bytes] = _lib.wipe) -> None:
+    def __del__(self, wipe: Callable[[Any], Any] = _lib.wipe) -> None:
         wipe(self.memory)
 
 
@@ -270,7 +271,7 @@ class Key(_HasStruct):
 class _InPieces(_HasStruct):
     """A struct that each call changes: it takes one call at a time, in the process that began it."""
 
-    def _call(self, call: Callable[..., Any], *words: Buffer) -> Any:
+    def _call(self, call: Callable[..., Any], *words: Buffer) -> bytes:
         struct = self._get()
         if struct.process != os.getpid():
             raise StateError(f"this {type(self).__name__} belongs to the process that this one was forked from")
