@@ -8,7 +8,7 @@ from __future__ import annotations
 
 from typing import TYPE_CHECKING, Any, Callable
 
-from . import InvalidUnwrap, lib
+from . import InvalidUnwrap, _lib
 
 if TYPE_CHECKING:
     from _typeshed import ReadableBuffer as Buffer
@@ -16,31 +16,33 @@ if TYPE_CHECKING:
 __all__ = ["InvalidUnwrap", "aes_key_unwrap", "aes_key_unwrap_with_padding", "aes_key_wrap", "aes_key_wrap_with_padding"]
 
 
-def _run(call: Callable[..., Any], wrapping_key: Buffer, data: Buffer, fault: Exception) -> bytes:
+def _run(call: Callable[..., Any], wrapping_key: Buffer, data: Buffer, fault: type[Exception], message: str) -> bytes:
     """The output of a call, or the fault."""
     result = call(wrapping_key, data)
     if type(result) is bytes:
         return result
-    raise ValueError("the wrapping key is not 16, 24 or 32 bytes long") if result[0] == 1 else fault
+    if result[0] == 1:
+        raise ValueError("the wrapping key is not 16, 24 or 32 bytes long")
+    raise fault(message)
 
 
 def aes_key_wrap(wrapping_key: Buffer, key_to_wrap: Buffer) -> bytes:
     """Wraps a key whose length is a multiple of 8 and at least 16 (RFC 3394), or raises ValueError."""
-    fault = ValueError("the length of the key to wrap is not a multiple of 8, or less than 16")
-    return _run(lib.wrap, wrapping_key, key_to_wrap, fault)
+    return _run(_lib.wrap, wrapping_key, key_to_wrap, ValueError,
+                "the length of the key to wrap is not a multiple of 8, or less than 16")
 
 
 def aes_key_unwrap(wrapping_key: Buffer, wrapped_key: Buffer) -> bytes:
     """Returns the key that aes_key_wrap wrapped, or raises InvalidUnwrap."""
-    return _run(lib.unwrap, wrapping_key, wrapped_key, InvalidUnwrap("not a valid wrapping"))
+    return _run(_lib.unwrap, wrapping_key, wrapped_key, InvalidUnwrap, "not a valid wrapping")
 
 
 def aes_key_wrap_with_padding(wrapping_key: Buffer, key_to_wrap: Buffer) -> bytes:
     """Wraps a key of 1 to 2**32 - 1 bytes (RFC 5649), or raises ValueError."""
-    fault = ValueError("the key to wrap is empty, or longer than 2**32 - 1 bytes")
-    return _run(lib.wrap_padded, wrapping_key, key_to_wrap, fault)
+    return _run(_lib.wrap_padded, wrapping_key, key_to_wrap, ValueError,
+                "the key to wrap is empty, or longer than 2**32 - 1 bytes")
 
 
 def aes_key_unwrap_with_padding(wrapping_key: Buffer, wrapped_key: Buffer) -> bytes:
     """Returns the key that aes_key_wrap_with_padding wrapped, or raises InvalidUnwrap."""
-    return _run(lib.unwrap_padded, wrapping_key, wrapped_key, InvalidUnwrap("not a valid wrapping"))
+    return _run(_lib.unwrap_padded, wrapping_key, wrapped_key, InvalidUnwrap, "not a valid wrapping")

@@ -5,8 +5,8 @@ import mmap
 import unittest
 
 import aeadkit
-from aeadkit import (InvalidTag, InvalidUnwrap, Key, Opener, Overlap, Refused, Sealer, SivSealer, SourceChanged, StateError, Suite,
-                     aead, keywrap)
+from aeadkit import (InvalidTag, InvalidUnwrap, Key, Opener, Overlap, Refused, Sealer, SivSealer, SourceChanged, StateError,
+                     Suite, aead, keywrap)
 
 KEY = bytes(range(32))
 NONCE = bytes(range(12))
@@ -25,12 +25,13 @@ class Arguments(unittest.TestCase):
         self.assertRaises(TypeError, key.seal, NONCE, TEXT, b"aad")  # by name alone, so that it cannot be exchanged
 
     def test_objects_that_give_bytes(self):
-        key = Key(GCM, bytearray(KEY))
-        for text in (bytearray(48), memoryview(bytes(96))[::2], mmap.mmap(-1, 48), array.array("B", bytes(48)),
-                     memoryview(bytes(48)).cast("B", (2, 24)), memoryview(bytes(48)).cast("c")):
+        key, data, mapped = Key(GCM, bytearray(KEY)), bytes(range(48)), mmap.mmap(-1, 48)
+        mapped[:] = data
+        for text in (bytearray(data), memoryview(data[::-1])[::-1], mapped,
+                     array.array("B", data), memoryview(data).cast("B", (2, 24)), memoryview(data).cast("c")):
             sealed = key.seal(memoryview(NONCE), text, aad=text)
-            self.assertEqual(sealed, Key(GCM, KEY).seal(NONCE, bytes(48), aad=bytes(48)))
-            self.assertEqual(key.open(bytearray(NONCE), bytearray(sealed), aad=text), bytes(48))
+            self.assertEqual(sealed, Key(GCM, KEY).seal(NONCE, data, aad=data))
+            self.assertEqual(key.open(bytearray(NONCE), bytearray(sealed), aad=text), data)
             sealer, opener = key.sealer(NONCE, aad=text), key.opener(NONCE, memoryview(sealed)[-16:], aad=text)
             self.assertEqual(sealer.update(text) + sealer.finish(), sealed)
             opener.check(memoryview(sealed)[:-16])
@@ -133,6 +134,7 @@ class Faults(unittest.TestCase):
                 tag = key.seal_in_place(NONCE, view[4:], aad=view[:4])
                 self.assertEqual(buffer + tag, b"head" + key.seal(NONCE, TEXT, aad=b"head"))
                 key.open_in_place(NONCE, view[4:], tag, aad=view[:4])
+                key.open_in_place(NONCE, view[:-4], key.seal_in_place(NONCE, view[:-4], aad=view[-4:]), aad=view[-4:])
                 for words in ((view[:12], view[4:]), (view[-12:], view)):
                     self.assertRaises(Overlap, key.seal_in_place, *words)
                     self.assertRaises(Overlap, key.open_in_place, *words, TAG)
@@ -153,7 +155,7 @@ class Faults(unittest.TestCase):
         for suite in Suite:
             key = Key(suite, KEY[: suite.key_bytes])
             sealed = key.seal(NONCE, TEXT)
-            self.assertEqual(aeadkit.lib.open(key._struct.memory, NONCE, sealed, b"other"), (6, bytes(len(TEXT))))
+            self.assertEqual(aeadkit._lib.open(key._struct.memory, NONCE, sealed, b"other"), (6, bytes(len(TEXT))))
 
     def test_key_wrap(self):
         for size in (0, 1, 8, 15, 17, 20):
@@ -214,6 +216,9 @@ class Order(unittest.TestCase):
         siv.finish()
         self.assertEqual(bytes(piece) + tag, Key(SIV, KEY).seal(NONCE, TEXT, aad=b"aad"))
         self.refused((siv.absorb, b""), (siv.begin_second,), (siv.update, b""), (siv.finish,))
+        siv = Key(SIV, KEY).siv_sealer(NONCE, aad=b"aad")
+        siv.absorb(TEXT)
+        self.assertEqual(siv.begin_second(), tag)
 
     def test_a_refusal_ends_the_state(self):
         for suite in Suite:
