@@ -146,6 +146,8 @@ missing() {
         wasm-dis:binaryen groff:groff; do
         command -v "${tool%:*}" > /dev/null || echo "${tool#*:}"
     done
+    "${PYTHON:-python3}" -c 'import setuptools' 2> /dev/null || echo python3-setuptools
+    [ -e "$("${PYTHON:-python3}" -c 'import sysconfig; print(sysconfig.get_path("include"))' 2> /dev/null)/Python.h" ] || echo python3-dev
 }
 
 # Fails if `make check` would, for want of a tool or since the library in this prefix is for another processor.
