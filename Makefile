@@ -30,7 +30,7 @@ override PREFIX := $(abspath $(PREFIX))
 export BUILD BUILDS PROGRAM
 
 packages := check-c check-rust check-python check-javascript
-.PHONY: help library wasm program install ready check check-documents check-program check-aarch64 check-again dist bench constant-time $(packages)
+.PHONY: help library wasm program install ready native check check-documents check-program check-aarch64 check-again dist bench constant-time $(packages)
 help:
 	@sed -n '3,21s/^# \{0,1\}//p' Makefile
 
@@ -63,8 +63,9 @@ $(PREFIX)/share/aeadkit/javascript/aeadkit.wasm:
 $(PREFIX)/bin/aeadkit:
 	tools/build/lib.sh program "$(PREFIX)"
 
-ready:
-	@tools/build/lib.sh ready "$(PREFIX)"
+ready native:
+	@tools/build/lib.sh $@ "$(PREFIX)"
+$(packages) bench check-again: native
 check: ready check-documents $(packages) check-program
 check-documents:
 	python3 tools/documents.py

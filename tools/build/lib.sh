@@ -1,6 +1,6 @@
 #!/bin/sh
-# What the Makefile runs to build and to pack: lib.sh library|program|wasm|standin|standin-wasm|ready|again PREFIX, lib.sh
-# dist|missing, or lib.sh same FOLDER FOLDER.
+# What the Makefile runs to build and to pack: lib.sh library|program|wasm|standin|standin-wasm|ready|native|again PREFIX,
+# lib.sh dist|missing, or lib.sh same FOLDER FOLDER.
 # BUILD is the folder of the copies that are proved. BUILDS names the builds of the library, and PROGRAM that of the program:
 # `default` and `avx2` are for x86-64, and may stand in one prefix, and `aarch64` needs a prefix of its own.
 set -eu
@@ -155,6 +155,11 @@ ready() {
     packages=$(missing)
     # shellcheck disable=SC2086
     [ -z "$packages" ] || fail "tools for the tests are not there: install" $packages
+    native
+}
+
+# Fails if the library in this prefix does not run on this machine.
+native() {
     there=$(processor "$prefix/lib/libaeadkit.so")
     [ "$there" = none ] || [ "$there" = x86_64 ] || fail "$prefix has the library for $there: give another PREFIX, or make check-aarch64"
 }
@@ -349,7 +354,7 @@ again() {
 command=$1
 prefix=${2:-}
 case $command in
-library | program | wasm | standin | standin-wasm | ready | again)
+library | program | wasm | standin | standin-wasm | ready | native | again)
     [ -n "$prefix" ] || fail "give a PREFIX"
     mkdir -p "$prefix"
     prefix=$(cd "$prefix" && pwd) ;;
@@ -362,6 +367,7 @@ wasm) wasm ;;
 standin) standin ;;
 standin-wasm) standin_wasm ;;
 ready) ready ;;
+native) native ;;
 dist) dist ;;
 missing) missing ;;
 again) again ;;
