@@ -7,6 +7,7 @@
 #   make check                every test below
 #   make check-NAME           one of documents, c, rust, python, javascript, program
 #   make check-aarch64        the library for AArch64, under QEMU
+#   make check-again          whether the default library is the same, byte for byte, if it is built in another folder
 #   make check STANDIN=1      the packages over an unproved stand-in of the library, without the toolchain, in two minutes
 #   make dist                 tarballs for C, a crate, wheels, an npm package and SHA256SUMS, in BUILD/dist
 #   make bench                the speed of the library beside other libraries on this machine; WORDS="--kept 5"
@@ -29,9 +30,9 @@ override PREFIX := $(abspath $(PREFIX))
 export BUILD BUILDS PROGRAM
 
 packages := check-c check-rust check-python check-javascript
-.PHONY: help library wasm program install ready check check-documents check-program check-aarch64 dist bench constant-time $(packages)
+.PHONY: help library wasm program install ready native check check-documents check-program check-aarch64 check-again dist bench constant-time $(packages)
 help:
-	@sed -n '3,20s/^# \{0,1\}//p' Makefile
+	@sed -n '3,21s/^# \{0,1\}//p' Makefile
 
 ifneq ($(STANDIN),)
 check $(packages):
@@ -39,7 +40,7 @@ check $(packages):
 	$(MAKE) --no-print-directory $(if $(filter check,$@),check-documents $(packages),$@) \
 	    STANDIN= BUILD="$$room" PREFIX="$$room/prefix" LIBRARY=standin WASM=standin-wasm
 	@echo "ok: $@, over the stand-in$(if $(filter check,$@), (the program has none: make check-program))"
-library wasm program install dist bench constant-time check-program check-aarch64:
+library wasm program install dist bench constant-time check-program check-aarch64 check-again:
 	@echo "$@ takes no stand-in" >&2; exit 2
 else
 
@@ -62,8 +63,9 @@ $(PREFIX)/share/aeadkit/javascript/aeadkit.wasm:
 $(PREFIX)/bin/aeadkit:
 	tools/build/lib.sh program "$(PREFIX)"
 
-ready:
-	@tools/build/lib.sh ready "$(PREFIX)"
+ready native:
+	@tools/build/lib.sh $@ "$(PREFIX)"
+$(packages) bench check-again: native
 check: ready check-documents $(packages) check-program
 check-documents:
 	python3 tools/documents.py
@@ -86,6 +88,8 @@ check-program: $(PREFIX)/bin/aeadkit
 check-aarch64:
 	[ -e "$(PREFIX)/lib/libaeadkit.a" ] || BUILDS=aarch64 tools/build/lib.sh library "$(PREFIX)"
 	packages/c/tests/aarch64.sh "$(PREFIX)" "$(BUILD)/c-aarch64"
+check-again: $(PREFIX)/lib/libaeadkit.a
+	tools/build/lib.sh again "$(PREFIX)"
 
 bench: $(PREFIX)/lib/libaeadkit.a
 	bench/bench.sh "$(PREFIX)" $(WORDS)

@@ -7,7 +7,7 @@ import sys
 
 from setuptools import Extension, setup
 
-prefix = pathlib.Path(os.environ.get("AEADKIT_PREFIX") or sys.exit("aeadkit: set AEADKIT_PREFIX: the package needs the library"))
+prefix = pathlib.Path(os.environ.get("AEADKIT_PREFIX") or sys.exit("aeadkit: set AEADKIT_PREFIX to where the library is"))
 header, default, v3 = (prefix / file for file in ("include/aeadkit.h", "lib/libaeadkit.a", "lib/x86-64-v3/libaeadkit.a"))
 for file in (header, default):
     if not file.is_file():
@@ -18,7 +18,7 @@ def extension(name, archive):
     return Extension(
         f"aeadkit.{name}", ["aeadkit/_library.c"], depends=[str(header), str(archive)], include_dirs=[str(header.parent)],
         define_macros=[("INIT", f"PyInit_{name}"), ("Py_LIMITED_API", "0x030b0000")] + [("WITH_V3", None)] * v3.is_file(),
-        extra_compile_args=["-fvisibility=hidden"], extra_objects=[str(archive)], extra_link_args=["-Wl,-s"], py_limited_api=True)
+        extra_objects=[str(archive)], extra_link_args=["-Wl,-s"], py_limited_api=True)
 
 
 setup(

@@ -1,6 +1,6 @@
 #!/bin/sh
-# What the Makefile runs to build and to pack: lib.sh library|program|wasm|standin|standin-wasm|ready PREFIX, lib.sh dist|missing,
-# or lib.sh same FOLDER FOLDER.
+# What the Makefile runs to build and to pack: lib.sh library|program|wasm|standin|standin-wasm|ready|native|again PREFIX,
+# lib.sh dist|missing, or lib.sh same FOLDER FOLDER.
 # BUILD is the folder of the copies that are proved. BUILDS names the builds of the library, and PROGRAM that of the program:
 # `default` and `avx2` are for x86-64, and may stand in one prefix, and `aarch64` needs a prefix of its own.
 set -eu
@@ -99,7 +99,7 @@ tools_of_kit() {
     mkdir -p "$llvm"
     echo 'typedef __SIZE_TYPE__ size_t;' > "$llvm/stddef.h"
     for type in uint8 uint32 uint64 uintptr; do
-        echo "typedef __$(echo $type | tr a-z A-Z)_TYPE__ ${type}_t;"
+        echo "typedef __$(echo $type | tr '[:lower:]' '[:upper:]')_TYPE__ ${type}_t;"
     done > "$llvm/stdint.h"
     for name in clang ld.lld llvm-ar llvm-objcopy; do
         ln -sfn "$(kit)/toolchain/bin/clang" "$llvm/$name"
@@ -146,6 +146,8 @@ missing() {
         wasm-dis:binaryen groff:groff; do
         command -v "${tool%:*}" > /dev/null || echo "${tool#*:}"
     done
+    "${PYTHON:-python3}" -c 'import setuptools' 2> /dev/null || echo python3-setuptools
+    [ -e "$("${PYTHON:-python3}" -c 'import sysconfig; print(sysconfig.get_path("include"))' 2> /dev/null)/Python.h" ] || echo python3-dev
 }
 
 # Fails if `make check` would, for want of a tool or since the library in this prefix is for another processor.
@@ -153,6 +155,11 @@ ready() {
     packages=$(missing)
     # shellcheck disable=SC2086
     [ -z "$packages" ] || fail "tools for the tests are not there: install" $packages
+    native
+}
+
+# Fails if the library in this prefix does not run on this machine.
+native() {
     there=$(processor "$prefix/lib/libaeadkit.so")
     [ "$there" = none ] || [ "$there" = x86_64 ] || fail "$prefix has the library for $there: give another PREFIX, or make check-aarch64"
 }
@@ -267,16 +274,18 @@ standin_wasm() {
 # The extension is for the stable ABI of Python, so the headers of this machine's Python serve for another processor too; those of
 # Debian include one from a folder that is named after the processor. Every pip for Python 3.11 knows the tag, which says 2.17 of glibc.
 wheel() (
-    room=$build/python processor=$(processor "$prefix/lib/libaeadkit.so")
+    room=$build/python
     rm -rf "$room"
     cp -R "$top/packages/python" "$room"
     rm -rf "$room/build"
+    processor=x86_64
+    ! LC_ALL=C readelf -h "$prefix/lib/libaeadkit.a" | grep -q AArch64 || processor=aarch64
     compiler=cc
     [ $processor = "$(uname -m)" ] || compiler=$processor-linux-gnu-gcc
     ln -s "/usr/include/$(uname -m)-linux-gnu" "$room/$processor-linux-gnu"
     umask 022
     cd "$room"
-    AEADKIT_PREFIX=$prefix CC=$compiler LDSHARED="$compiler -shared" CFLAGS="-I$room" \
+    AEADKIT_PREFIX=$prefix SOURCE_DATE_EPOCH=${SOURCE_DATE_EPOCH:-400000000} CC=$compiler LDSHARED="$compiler -shared" CFLAGS="-I$room" \
         "${PYTHON:-python3}" setup.py -q bdist_wheel -p "manylinux_2_17_$processor" -d "$1" > log 2>&1 || {
         tail -n 20 log >&2
         exit 1
@@ -287,7 +296,9 @@ wheel() (
 # Packs a tarball for C and a wheel for each processor, the crate and the npm package into BUILD/dist, with their sums. The same
 # commit gives the same bytes in any folder: what is packed has the time of the commit, one owner and one order.
 dist() {
-    needs tar:tar gzip:gzip cargo:cargo npm:npm wasm-dis:binaryen wasm-as:binaryen aarch64-linux-gnu-gcc:gcc-aarch64-linux-gnu
+    needs tar:tar gzip:gzip aarch64-linux-gnu-gcc:gcc-aarch64-linux-gnu cargo:cargo npm:npm wasm-dis:binaryen wasm-as:binaryen
+    "${PYTHON:-python3}" -c 'import setuptools, wheel' 2> /dev/null ||
+        fail "${PYTHON:-python3} has no setuptools and wheel: install python3-setuptools, python3-wheel and python3-dev, or set PYTHON"
     SOURCE_DATE_EPOCH=${SOURCE_DATE_EPOCH:-$(git -C "$top" log -1 --format=%ct 2> /dev/null || true)}
     [ -n "$SOURCE_DATE_EPOCH" ] || fail "there is no commit whose time the packages could have: set SOURCE_DATE_EPOCH to a number of seconds"
     export SOURCE_DATE_EPOCH LC_ALL=C
@@ -326,10 +337,24 @@ same() {
     echo "ok: $(wc -l < "$1/SHA256SUMS") artefacts are the same, byte for byte"
 }
 
+# Builds the default library again, in another folder, and compares it with that in the prefix.
+again() {
+    build=$build/another/folder
+    mkdir -p "$build"
+    copied default
+    proved capi lib
+    linked "$room/crates/capi/out/libcapi.a" "$build/lib" "$build/lib"
+    for file in libaeadkit.a libaeadkit.so; do
+        cmp "$build/lib/$file" "$prefix/lib/$file" || fail "$file is not the same if it is built in another folder"
+    done
+    rm -rf "$build"
+    echo "ok: the library is the same, byte for byte, if it is built in another folder"
+}
+
 command=$1
 prefix=${2:-}
 case $command in
-library | program | wasm | standin | standin-wasm | ready)
+library | program | wasm | standin | standin-wasm | ready | native | again)
     [ -n "$prefix" ] || fail "give a PREFIX"
     mkdir -p "$prefix"
     prefix=$(cd "$prefix" && pwd) ;;
@@ -342,8 +367,10 @@ wasm) wasm ;;
 standin) standin ;;
 standin-wasm) standin_wasm ;;
 ready) ready ;;
+native) native ;;
 dist) dist ;;
 missing) missing ;;
+again) again ;;
 same) same "$2" "$3" ;;
 *) sed -n '2,5s/^# //p' "$0" >&2; exit 2 ;;
 esac

@@ -27,7 +27,8 @@ def table():
         for suites in CONSTRUCTIONS.values():
             of = [row for row in of_build if row["suite"] in suites.split()]
             found = sum(int(row["branches"]) + int(row["addresses"]) for row in of)
-            cells.append(f"{found or 'none'} in {sum(int(row['calls']) for row in of)} calls" if len(of) == len(suites.split()) else "")
+            whole = len(of) == len(suites.split())
+            cells.append(f"{found or 'none'} in {sum(int(row['calls']) for row in of)} calls" if whole else "not looked at")
         calls, tainted = (sum(int(row[column]) for row in of_build) for column in ("calls", "memcheck"))
         lengths = joined(row["lengths of memcheck"] for row in of_build if row["lengths of memcheck"] != "none")
         by = f"{'all' if tainted == calls else tainted} calls, {lengths} lengths" if tainted else "no"

@@ -46,10 +46,10 @@ if TYPE_CHECKING:
 __all__ = ["Suite", "Key", "Sealer", "Opener", "SivSealer", "Refused", "InvalidTag", "InvalidUnwrap", "Overlap",
            "SourceChanged", "StateError"]
 
-lib: Any = import_module("._library", __name__)
-if lib.RUNS_V3:
-    lib = import_module("._library_v3", __name__)
-__version__: str = lib.VERSION
+_lib: Any = import_module("._library", __name__)
+if _lib.RUNS_V3:
+    _lib = import_module("._library_v3", __name__)
+__version__: str = _lib.VERSION
 
 
 class Refused(Exception):
@@ -94,12 +94,13 @@ _FAULTS: dict[int, tuple[type[Exception], str]] = {
 }
 
 
-def _done(result: Any) -> Any:
-    """The result of a call, which is a tuple of a status and the output if it was refused."""
+def _done(result: Any) -> bytes:
+    """The output of a call, or the exception for its status if it returned a tuple of the status and the output."""
     if type(result) is tuple:
         fault, message = _FAULTS.get(result[0], (RuntimeError, f"the library returned the status {result[0]}"))
         raise fault(message)
-    return result
+    output: bytes = result
+    return output
 
 
 class Suite(enum.IntEnum):
@@ -123,17 +124,17 @@ class Suite(enum.IntEnum):
     @property
     def key_bytes(self) -> int:
         """The length of a key in bytes."""
-        return lib.facts(self)[0]
+        return int(_lib.facts(self)[0])
 
     @property
     def text_limit(self) -> int:
         """The length of the longest text in bytes."""
-        return lib.facts(self)[1]
+        return int(_lib.facts(self)[1])
 
     @property
     def aad_limit(self) -> int:
         """The length of the longest associated data in bytes."""
-        return lib.facts(self)[2]
+        return int(_lib.facts(self)[2])
 
 
 def _suite(suite: int) -> Suite:
@@ -145,11 +146,11 @@ def _suite(suite: int) -> Suite:
 class _Struct:
     """A struct of the library. It is wiped when neither an object nor a call uses it any more."""
 
-    def __init__(self, suite: Suite, memory: bytearray) -> None:
+    def __init__(self, suite: Suite, memory: Any) -> None:
         self.suite, self.memory, self.process = suite, memory, os.getpid()
         self.lock = threading.RLock()  # not Lock: a signal handler may call while its thread holds it
 
-    def __del__(self, wipe: Callable[[bytearray], bytes] = lib.wipe) -> None:
+    def __del__(self, wipe: Callable[[Any], Any] = _lib.wipe) -> None:
         wipe(self.memory)
 
 
@@ -205,7 +206,7 @@ class Key(_HasStruct):
 
     def __init__(self, suite: int, key: Buffer) -> None:
         member = _suite(suite)
-        self._struct = _Struct(member, _done(lib.key_init(member, key)))
+        self._struct = _Struct(member, _done(_lib.key_init(member, key)))
 
     def __copy__(self) -> Key:
         return self
@@ -216,7 +217,7 @@ class Key(_HasStruct):
     def seal(self, nonce: Buffer, text: Buffer, *, aad: Optional[Buffer] = None) -> bytes:
         """Returns the ciphertext of the text, followed by the tag: 16 bytes more than the text."""
         struct = self._get()
-        return _done(lib.seal(struct.memory, nonce, text, aad))
+        return _done(_lib.seal(struct.memory, nonce, text, aad))
 
     def open(self, nonce: Buffer, sealed: Buffer, *, aad: Optional[Buffer] = None) -> bytes:
         """Returns the text of what seal returned, under the same nonce and associated data.
@@ -224,7 +225,7 @@ class Key(_HasStruct):
         InvalidTag if the bytes are not such a sealing, or are shorter than a tag. No text is returned then.
         """
         struct = self._get()
-        return _done(lib.open(struct.memory, nonce, sealed, aad))
+        return _done(_lib.open(struct.memory, nonce, sealed, aad))
 
     def seal_in_place(self, nonce: Buffer, text: memoryview, *, aad: Optional[Buffer] = None) -> bytes:
         """Replaces the text that a memoryview shows by its ciphertext, and returns the tag of 16 bytes.
@@ -233,7 +234,7 @@ class Key(_HasStruct):
         not a memoryview, is read-only or is not contiguous; Overlap if the nonce or the associated data stands in it.
         """
         struct = self._get()
-        return _done(lib.seal_in_place(struct.memory, nonce, text, aad))
+        return _done(_lib.seal_in_place(struct.memory, nonce, text, aad))
 
     def open_in_place(self, nonce: Buffer, ciphertext: memoryview, tag: Buffer, *, aad: Optional[Buffer] = None) -> None:
         """Replaces the ciphertext that a memoryview shows by its text. The tag of 16 bytes is not part of the ciphertext.
@@ -242,24 +243,24 @@ class Key(_HasStruct):
         the ciphertext is as it was. ValueError if the tag is not 16 bytes long; TypeError and Overlap as in seal_in_place.
         """
         struct = self._get()
-        _done(lib.open_in_place(struct.memory, nonce, ciphertext, tag, aad))
+        _done(_lib.open_in_place(struct.memory, nonce, ciphertext, tag, aad))
 
     def sealer(self, nonce: Buffer, *, aad: Optional[Buffer] = None) -> Sealer:
         """Begins a sealing in pieces under ChaCha20-Poly1305 or AES-GCM. The Key may be closed before the sealing ends.
 
         ValueError under AES-GCM-SIV, which reads the text twice: see siv_sealer.
         """
-        return self._begin(Sealer.__new__(Sealer), lib.sealer_init, nonce, aad)
+        return self._begin(Sealer.__new__(Sealer), _lib.sealer_init, nonce, aad)
 
     def opener(self, nonce: Buffer, tag: Buffer, *, aad: Optional[Buffer] = None) -> Opener:
         """Begins an opening in pieces under any suite. `tag` is the last 16 bytes of the sealing. The Key may be closed before
         the opening ends."""
-        return self._begin(Opener.__new__(Opener), lib.opener_init, nonce, tag, aad)
+        return self._begin(Opener.__new__(Opener), _lib.opener_init, nonce, tag, aad)
 
     def siv_sealer(self, nonce: Buffer, *, aad: Optional[Buffer] = None) -> SivSealer:
-        """Begins a sealing in pieces under AES-GCM-SIV. ValueError under another suite. The Key may be closed before the sealing
-        ends."""
-        return self._begin(SivSealer.__new__(SivSealer), lib.siv_init, nonce, aad)
+        """Begins a sealing in pieces under AES-GCM-SIV. ValueError under another suite. The Key may be closed before the
+        sealing ends."""
+        return self._begin(SivSealer.__new__(SivSealer), _lib.siv_init, nonce, aad)
 
     def _begin(self, state: _State, call: Callable[..., Any], *words: Optional[Buffer]) -> _State:
         struct = self._get()
@@ -270,7 +271,7 @@ class Key(_HasStruct):
 class _InPieces(_HasStruct):
     """A struct that each call changes: it takes one call at a time, in the process that began it."""
 
-    def _call(self, call: Callable[..., Any], *words: Buffer) -> Any:
+    def _call(self, call: Callable[..., Any], *words: Buffer) -> bytes:
         struct = self._get()
         if struct.process != os.getpid():
             raise StateError(f"this {type(self).__name__} belongs to the process that this one was forked from")
@@ -293,20 +294,20 @@ class Sealer(_InPieces):
 
     def __init__(self, suite: int, key: Buffer, nonce: Buffer, *, aad: Optional[Buffer] = None) -> None:
         with Key(suite, key) as kept:
-            kept._begin(self, lib.sealer_init, nonce, aad)
+            kept._begin(self, _lib.sealer_init, nonce, aad)
 
     def update(self, piece: Buffer) -> bytes:
         """Returns the ciphertext of the next piece of the text, which may have any length. ValueError if the whole text would
         be longer than `suite.text_limit`."""
-        return self._call(lib.sealer_update, piece)
+        return self._call(_lib.sealer_update, piece)
 
     def update_in_place(self, piece: memoryview) -> None:
         """Replaces the next piece of the text, which a memoryview shows, by its ciphertext."""
-        self._call(lib.sealer_update_in_place, piece)
+        self._call(_lib.sealer_update_in_place, piece)
 
     def finish(self) -> bytes:
         """Ends the sealing, wipes its struct, and returns the tag of 16 bytes."""
-        return self._call(lib.sealer_finish)
+        return self._call(_lib.sealer_finish)
 
 
 class Opener(_InPieces):
@@ -322,30 +323,30 @@ class Opener(_InPieces):
 
     def __init__(self, suite: int, key: Buffer, nonce: Buffer, tag: Buffer, *, aad: Optional[Buffer] = None) -> None:
         with Key(suite, key) as kept:
-            kept._begin(self, lib.opener_init, nonce, tag, aad)
+            kept._begin(self, _lib.opener_init, nonce, tag, aad)
 
     def check(self, piece: Buffer) -> None:
         """Takes the next piece of the ciphertext in the first pass, which may have any length."""
-        self._call(lib.opener_check, piece)
+        self._call(_lib.opener_check, piece)
 
     def begin_second(self) -> None:
         """Ends the first pass and begins the second. InvalidTag if the pieces and the tag are not a sealing, which ends the
         opening and wipes its struct."""
-        self._call(lib.opener_begin_second)
+        self._call(_lib.opener_begin_second)
 
     def update(self, piece: Buffer) -> bytes:
         """Returns the text of the next piece of the ciphertext in the second pass. SourceChanged if the second pass would be
         longer than the first."""
-        return self._call(lib.opener_update, piece)
+        return self._call(_lib.opener_update, piece)
 
     def update_in_place(self, piece: memoryview) -> None:
         """Replaces the next piece of the ciphertext, which a memoryview shows, by its text, in the second pass."""
-        self._call(lib.opener_update_in_place, piece)
+        self._call(_lib.opener_update_in_place, piece)
 
     def finish(self) -> None:
         """Ends the second pass, and wipes the struct. SourceChanged if its bytes were not those of the first: throw the text
         away."""
-        self._call(lib.opener_finish)
+        self._call(_lib.opener_finish)
 
 
 class SivSealer(_InPieces):
@@ -362,27 +363,27 @@ class SivSealer(_InPieces):
 
     def __init__(self, suite: int, key: Buffer, nonce: Buffer, *, aad: Optional[Buffer] = None) -> None:
         with Key(suite, key) as kept:
-            kept._begin(self, lib.siv_init, nonce, aad)
+            kept._begin(self, _lib.siv_init, nonce, aad)
 
     def absorb(self, piece: Buffer) -> None:
         """Takes the next piece of the text in the first pass, which may have any length. ValueError if the whole text would be
         longer than `suite.text_limit`."""
-        self._call(lib.siv_absorb, piece)
+        self._call(_lib.siv_absorb, piece)
 
     def begin_second(self) -> bytes:
         """Ends the first pass and begins the second, and returns the tag of 16 bytes."""
-        return self._call(lib.siv_begin_second)
+        return self._call(_lib.siv_begin_second)
 
     def update(self, piece: Buffer) -> bytes:
         """Returns the ciphertext of the next piece of the text in the second pass. SourceChanged if the second pass would be
         longer than the first."""
-        return self._call(lib.siv_update, piece)
+        return self._call(_lib.siv_update, piece)
 
     def update_in_place(self, piece: memoryview) -> None:
         """Replaces the next piece of the text, which a memoryview shows, by its ciphertext, in the second pass."""
-        self._call(lib.siv_update_in_place, piece)
+        self._call(_lib.siv_update_in_place, piece)
 
     def finish(self) -> None:
         """Ends the second pass, and wipes the struct. SourceChanged if its text was not that of the first: throw the ciphertext
         away."""
-        self._call(lib.siv_finish)
+        self._call(_lib.siv_finish)

@@ -1,8 +1,8 @@
 /* The calls of the library as functions of Python, for the classes of __init__.py and the functions of keywrap.py.
 
-   The file is compiled once for each build of the library, with INIT as the name of the module's function. A struct of the library
-   is a bytearray. A call reads its arguments where they are, holds their buffers until it returns, and lets other threads run if
-   one of them is 2 KiB long or more. It returns what it wrote, or a tuple of its status and that. */
+   The file is compiled once for each build of the library, with INIT as the name of the module's function. A struct of the
+   library is a bytearray. A call reads its arguments where they are, holds their buffers until it returns, and lets other
+   threads run if one of them is 2 KiB long or more. It returns what it wrote, or a tuple of its status and that. */
 #define PY_SSIZE_T_CLEAN
 #include <Python.h>
 #include <aeadkit.h>
@@ -11,18 +11,19 @@
 
 enum { MOST_ARGUMENTS = 5, LONG_BYTES = 2048, OVERLAP = 17 };
 
+/* Raises the exception. */
 static int refused(PyObject *exception, const char *message) {
     PyErr_SetString(exception, message);
     return 0;
 }
 
-/* Gets an argument: 's' a struct, 'r' bytes to read, 'o' the same or None, 't' a tag, 'c' a memoryview of bytes to change, 'n' a
-   number, as the length of an empty buffer. Returns 0 after an exception. */
+/* Gets an argument: 's' a struct, 'r' bytes to read, 'o' the same or None, 't' a tag, 'c' a memoryview of bytes to change, 'n'
+   a number, as the length of an empty buffer. Returns 0 after an exception. */
 static int get(Py_buffer *view, char kind, PyObject *object) {
     if (kind == 'o' && object == Py_None) return 1;
     if (kind == 'n') return (view->len = PyLong_AsSsize_t(object)) >= 0;
     if (kind == 'c' && !PyMemoryView_Check(object))
-        return refused(PyExc_TypeError, "a memoryview is required, as memoryview(data)[1:5]: a slice of a bytearray is a copy");
+        return refused(PyExc_TypeError, "a memoryview is required, since a slice of a bytearray is a copy");
     if (PyObject_GetBuffer(object, view, kind == 's' ? PyBUF_WRITABLE : PyBUF_FULL_RO)) return 0;
     const char *format = view->format ? view->format : "B";
     format += *format == '<';
@@ -53,7 +54,7 @@ static int get_all(Py_buffer *b, const char *kinds, PyObject *const *arguments, 
 
 static PyThreadState *let_others_run(const Py_buffer *b) {
     for (int i = 0; i < MOST_ARGUMENTS; i++)
-        if (b[i].buf && b[i].len >= LONG_BYTES) return PyEval_SaveThread();
+        if (b[i].len >= LONG_BYTES) return PyEval_SaveThread();
     return NULL;
 }
 
@@ -67,7 +68,7 @@ static int overlaps(const Py_buffer *b, int changed) {
     return 0;
 }
 
-/* Which struct it is follows from its size; the structs of an opening and of a sealing under AES-GCM-SIV are wiped alike. */
+/* The size tells which struct it is. An opening and a sealing under AES-GCM-SIV have one size, and are wiped alike. */
 static uint32_t wiped(const Py_buffer *memory) {
     if (memory->len == AEADKIT_KEPT_KEY_BYTES) aeadkit_key_wipe(memory->buf);
     if (memory->len == AEADKIT_SEALER_BYTES) aeadkit_sealer_wipe(memory->buf);
@@ -114,7 +115,8 @@ FUNCTION(sealer_update, "sr", PyBytes, b[1].len, (COPY, aeadkit_sealer_update(b[
 FUNCTION(sealer_update_in_place, "sc", PyBytes, 0, aeadkit_sealer_update(b[0].buf, IN(1)))
 FUNCTION(sealer_finish, "s", PyBytes, AEADKIT_TAG_BYTES, aeadkit_sealer_finish(b[0].buf, out))
 
-FUNCTION(opener_init, "srto", PyByteArray, AEADKIT_OPENER_BYTES, aeadkit_opener_init_with(out, b[0].buf, IN(1), IN(3), b[2].buf))
+FUNCTION(opener_init, "srto", PyByteArray, AEADKIT_OPENER_BYTES,
+         aeadkit_opener_init_with(out, b[0].buf, IN(1), IN(3), b[2].buf))
 FUNCTION(opener_check, "sr", PyBytes, 0, aeadkit_opener_check(b[0].buf, IN(1)))
 FUNCTION(opener_begin_second, "s", PyBytes, 0, aeadkit_opener_begin_second(b[0].buf))
 FUNCTION(opener_update, "sr", PyBytes, b[1].len, (COPY, aeadkit_opener_update(b[0].buf, OUT)))
@@ -150,7 +152,7 @@ static PyMethodDef methods[] = {
     SAME(siv_update_in_place), SAME(siv_finish), SAME(wrap), SAME(unwrap), SAME(wrap_padded), SAME(unwrap_padded),
     {"facts", facts, METH_O, NULL}, {0}};
 
-/* Whether the processor runs x86-64-v3, and the package has a build of the library for it. Every processor with these three has the rest. */
+/* Whether the package has a build for x86-64-v3 and the processor runs it: one that has these three has the rest too. */
 static int runs_v3(void) {
 #ifdef WITH_V3
     return __builtin_cpu_supports("avx2") && __builtin_cpu_supports("bmi2") && __builtin_cpu_supports("fma");
@@ -164,7 +166,8 @@ static int fill(PyObject *module) {
         PyErr_SetString(PyExc_ImportError, "libaeadkit.a and aeadkit.h have different versions");
         return -1;
     }
-    return PyModule_AddStringConstant(module, "VERSION", AEADKIT_VERSION) || PyModule_AddIntConstant(module, "RUNS_V3", runs_v3()) ? -1 : 0;
+    if (PyModule_AddStringConstant(module, "VERSION", AEADKIT_VERSION)) return -1;
+    return PyModule_AddIntConstant(module, "RUNS_V3", runs_v3());
 }
 
 static PyModuleDef_Slot slots[] = {{Py_mod_exec, (void *)fill}, {0}};

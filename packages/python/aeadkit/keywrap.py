@@ -8,7 +8,7 @@ from __future__ import annotations
 
 from typing import TYPE_CHECKING, Any, Callable
 
-from . import InvalidUnwrap, lib
+from . import InvalidUnwrap, _lib
 
 if TYPE_CHECKING:
     from _typeshed import ReadableBuffer as Buffer
@@ -28,21 +28,21 @@ def _run(call: Callable[..., Any], wrapping_key: Buffer, data: Buffer, fault: ty
 
 def aes_key_wrap(wrapping_key: Buffer, key_to_wrap: Buffer) -> bytes:
     """Wraps a key whose length is a multiple of 8 and at least 16 (RFC 3394), or raises ValueError."""
-    return _run(lib.wrap, wrapping_key, key_to_wrap, ValueError,
+    return _run(_lib.wrap, wrapping_key, key_to_wrap, ValueError,
                 "the length of the key to wrap is not a multiple of 8, or less than 16")
 
 
 def aes_key_unwrap(wrapping_key: Buffer, wrapped_key: Buffer) -> bytes:
     """Returns the key that aes_key_wrap wrapped, or raises InvalidUnwrap."""
-    return _run(lib.unwrap, wrapping_key, wrapped_key, InvalidUnwrap, "not a valid wrapping")
+    return _run(_lib.unwrap, wrapping_key, wrapped_key, InvalidUnwrap, "not a valid wrapping")
 
 
 def aes_key_wrap_with_padding(wrapping_key: Buffer, key_to_wrap: Buffer) -> bytes:
     """Wraps a key of 1 to 2**32 - 1 bytes (RFC 5649), or raises ValueError."""
-    return _run(lib.wrap_padded, wrapping_key, key_to_wrap, ValueError,
+    return _run(_lib.wrap_padded, wrapping_key, key_to_wrap, ValueError,
                 "the key to wrap is empty, or longer than 2**32 - 1 bytes")
 
 
 def aes_key_unwrap_with_padding(wrapping_key: Buffer, wrapped_key: Buffer) -> bytes:
     """Returns the key that aes_key_wrap_with_padding wrapped, or raises InvalidUnwrap."""
-    return _run(lib.unwrap_padded, wrapping_key, wrapped_key, InvalidUnwrap, "not a valid wrapping")
+    return _run(_lib.unwrap_padded, wrapping_key, wrapped_key, InvalidUnwrap, "not a valid wrapping")

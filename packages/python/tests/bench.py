@@ -1,22 +1,16 @@
-"""Nanoseconds of Key.seal and of encrypt in cryptography (PyCA), and what a call over 100 MiB adds to the memory.
+"""Nanoseconds of Key.seal and of encrypt in cryptography (PyCA), and what a call over 100 MiB adds to the memory."""
 
-    python3 tests/bench.py [NAME=FOLDER ..]
-
-FOLDER has another copy of the package, such as an earlier one, which is measured too.
-"""
-
-import importlib.util
 import mmap
 import os
 import pathlib
-import sys
 import time
 
 import aeadkit
 from cryptography.hazmat.primitives.ciphers import aead as pyca
 
 NONCE, MEMORY = bytes(12), 100 << 20
-SUITES = {"ChaCha20-Poly1305": (1, pyca.ChaCha20Poly1305), "AES-256-GCM": (4, pyca.AESGCM), "AES-256-GCM-SIV": (6, pyca.AESGCMSIV)}
+SUITES = {"ChaCha20-Poly1305": (1, pyca.ChaCha20Poly1305), "AES-256-GCM": (4, pyca.AESGCM),
+          "AES-256-GCM-SIV": (6, pyca.AESGCMSIV)}
 
 
 def mapped(data):
@@ -26,13 +20,6 @@ def mapped(data):
 
 
 BUFFERS = {"bytes": bytes, "bytearray": bytearray, "memoryview": memoryview, "mmap": mapped}
-
-
-def package(name, folder):
-    spec = importlib.util.spec_from_file_location(name, pathlib.Path(folder, "aeadkit/__init__.py"))
-    module = sys.modules[name] = importlib.util.module_from_spec(spec)
-    spec.loader.exec_module(module)
-    return module
 
 
 def least(calls, count):
@@ -63,13 +50,12 @@ def added(make, call):
     return os.waitstatus_to_exitcode(os.waitpid(child, 0)[1])
 
 
-packages = {"aeadkit": aeadkit, **{name: package(name, folder) for name, folder in (word.split("=") for word in sys.argv[1:])}}
-print("nanoseconds:", *packages, "cryptography")
+print("nanoseconds: aeadkit cryptography")
 for name, (suite, peer) in SUITES.items():
-    keys, peer_key = [module.Key(suite, bytes(32)) for module in packages.values()], peer(bytes(32))
+    key, peer_key = aeadkit.Key(suite, bytes(32)), peer(bytes(32))
     for size in (16, 1 << 10, 64 << 10, 1 << 20):
         text = bytes(size)
-        calls = [lambda key=key: key.seal(NONCE, text) for key in keys] + [lambda: peer_key.encrypt(NONCE, text, None)]
+        calls = (lambda: key.seal(NONCE, text), lambda: peer_key.encrypt(NONCE, text, None))
         print(f"{name}, {size} bytes:", *least(calls, max(1, 100_000 // (size + 2000))))
 key = aeadkit.Key(1, bytes(32))
 for name, call in {"seal": lambda data: key.seal(NONCE, data), "check": lambda data: key.opener(NONCE, bytes(16)).check(data),

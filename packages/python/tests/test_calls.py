@@ -5,8 +5,8 @@ import mmap
 import unittest
 
 import aeadkit
-from aeadkit import (InvalidTag, InvalidUnwrap, Key, Opener, Overlap, Refused, Sealer, SivSealer, SourceChanged, StateError, Suite,
-                     aead, keywrap)
+from aeadkit import (InvalidTag, InvalidUnwrap, Key, Opener, Overlap, Refused, Sealer, SivSealer, SourceChanged, StateError,
+                     Suite, aead, keywrap)
 
 KEY = bytes(range(32))
 NONCE = bytes(range(12))
@@ -155,7 +155,7 @@ class Faults(unittest.TestCase):
         for suite in Suite:
             key = Key(suite, KEY[: suite.key_bytes])
             sealed = key.seal(NONCE, TEXT)
-            self.assertEqual(aeadkit.lib.open(key._struct.memory, NONCE, sealed, b"other"), (6, bytes(len(TEXT))))
+            self.assertEqual(aeadkit._lib.open(key._struct.memory, NONCE, sealed, b"other"), (6, bytes(len(TEXT))))
 
     def test_key_wrap(self):
         for size in (0, 1, 8, 15, 17, 20):

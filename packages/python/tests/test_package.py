@@ -99,7 +99,7 @@ class Build(unittest.TestCase):
         head, _, readme = (site / f"aeadkit-{version}.dist-info/METADATA").read_text().partition("\n\n")
         self.assertIn(f"\nVersion: {version}\n", head)
         self.assertEqual(readme, (FOLDER / "README.md").read_text())
-        used = run("-c", "import aeadkit; print(aeadkit.lib.__file__)", folder=site)
+        used = run("-c", "import aeadkit; print(aeadkit._lib.__file__)", folder=site)
         self.assertIn(f"{site}/aeadkit/_library", used.stdout.decode())
 
     def test_without_a_library(self):

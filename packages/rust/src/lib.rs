@@ -40,11 +40,11 @@
 //! builds of the library, and is not proved. [`Key`] and the states in pieces are wiped when they are dropped. The caller's
 //! slices, the stack, and the places that a key or a state was moved from are not.
 //!
-//! A call takes up to 12 KiB of stack in the library, however long the text is.
+//! A call takes up to 12 KiB of stack in the library, or 16 KiB on AArch64, however long the text is.
 //!
 //! The crate is `no_std`. Without its default feature `alloc` it has no calls that return vectors. The library calls
-//! `memcpy`, `memmove`, `memset` and `bcmp`, which the C library has. It is for x86-64 Linux, and the build for any other target,
-//! such as `x86_64-unknown-none` of a kernel, fails. If the program is compiled for processors with AVX2, as with
+//! `memcpy`, `memmove`, `memset` and `bcmp`, which the C library has. It is for Linux on x86-64 and AArch64, and the build for any
+//! other target, such as `x86_64-unknown-none` of a kernel, fails. If the program is compiled for processors with AVX2, as with
 //! `RUSTFLAGS="-C target-cpu=x86-64-v3"`, the library's build for these is linked.
 
 #![no_std]
