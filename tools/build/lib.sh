@@ -304,6 +304,7 @@ dist() {
     export SOURCE_DATE_EPOCH LC_ALL=C
     umask 022
     out=$build/dist package=$build/aeadkit-$version builds_here=${BUILDS:-default avx2}
+    case $builds_here in *aarch64*) fail "BUILDS=\"$builds_here\": dist makes the packages for AArch64 in any case, so name those for x86-64" ;; esac
     rm -rf "$out" "$package"
     mkdir -p "$out"
     cp -R "$top/packages/rust" "$package"
