@@ -183,6 +183,7 @@ library() {
     for kind in $builds; do
         copied "$kind"
         words='' static=$prefix/lib shared=$prefix/lib
+        # For AArch64 there is no second build: that for neoverse-v2 takes more instructions for AES, and no loader would choose it.
         case $kind in
         avx2) words=--cpu=x86-64-v3 static=$prefix/lib/x86-64-v3 shared=$prefix/lib/glibc-hwcaps/x86-64-v3 ;;
         aarch64) words='--target aarch64-unknown-linux-gnu' ;;
