@@ -239,7 +239,7 @@ wasm() {
     cat > "$clang" << END
 #!/bin/sh
 set -eu
-clang=$kit/toolchain/bin/clang
+clang="$kit/toolchain/bin/clang"
 case " \$* " in *' -x ir module.bc '*)
     "\$clang" --target=wasm64-unknown-unknown --no-default-config -S -emit-llvm -Xclang -disable-llvm-passes -x ir module.bc -o module.ll
     python3 "$top/tools/build/swizzle.py" < module.ll > module.bc ;;
