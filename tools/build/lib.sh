@@ -183,6 +183,7 @@ library() {
     for kind in $builds; do
         copied "$kind"
         words='' static=$prefix/lib shared=$prefix/lib
+        # For AArch64 there is no second build: that for neoverse-v2 takes more instructions for AES, and no loader would choose it.
         case $kind in
         avx2) words=--cpu=x86-64-v3 static=$prefix/lib/x86-64-v3 shared=$prefix/lib/glibc-hwcaps/x86-64-v3 ;;
         aarch64) words='--target aarch64-unknown-linux-gnu' ;;
@@ -238,7 +239,7 @@ wasm() {
     cat > "$clang" << END
 #!/bin/sh
 set -eu
-clang=$kit/toolchain/bin/clang
+clang="$kit/toolchain/bin/clang"
 case " \$* " in *' -x ir module.bc '*)
     "\$clang" --target=wasm64-unknown-unknown --no-default-config -S -emit-llvm -Xclang -disable-llvm-passes -x ir module.bc -o module.ll
     python3 "$top/tools/build/swizzle.py" < module.ll > module.bc ;;
@@ -304,6 +305,7 @@ dist() {
     export SOURCE_DATE_EPOCH LC_ALL=C
     umask 022
     out=$build/dist package=$build/aeadkit-$version builds_here=${BUILDS:-default avx2}
+    case $builds_here in *aarch64*) fail "BUILDS=\"$builds_here\": dist makes the packages for AArch64 in any case, so name those for x86-64" ;; esac
     rm -rf "$out" "$package"
     mkdir -p "$out"
     cp -R "$top/packages/rust" "$package"

@@ -86,7 +86,6 @@ elif [ $processor = x86_64 ]; then
     echo "left out: the build for AVX2, which is not in PREFIX or does not run on this machine"
 fi
 cc -O2 -o "$room/traces" "$here/traces.c"
-cc -O2 -shared -fPIC -o "$room/plugin.so" "$here/plugin.c"
 cc -O2 -shared -fPIC -o "$room/program.so" "$here/program.c"
 # valgrind's headers are the same for each processor, and do not lie where a compiler for another one looks.
 mkdir "$room/include"
@@ -100,6 +99,11 @@ for build in $builds; do
     [ "$build" != "$program" ] || [ ! -e "$prefix/bin/aeadkit" ] || cp "$prefix/bin/aeadkit" "$room/$build/"
     "${cross}gcc" -no-pie -o "$room/$build/calls" "$room/calls.o" "$room/known.o" "$room/$build/libaeadkit.so" \
         -Wl,-rpath,"$room/$build" -Wl,-z,now
+done
+for version in 1 2 3 4 5 none; do
+    [ $version != none ] || fail "this $qemu takes no version of the plugin"
+    cc -O2 -shared -fPIC -DVERSION=$version -o "$room/plugin.so" "$here/plugin.c"
+    ! $qemu -plugin "$room/plugin.so,fd=1,off=1" "$room/${builds%% *}/calls" cells > /dev/null 2>&1 || break
 done
 python3 "$here/table.py" --room "$room" --builds "$builds" --suites "$suites" --calls "$calls" --lengths $lengths \
     --claimed "$claimed" --verdicts "$here/verdicts.txt" --write "$table" --record "$record" --jobs "$jobs" --qemu "$qemu" \

@@ -9,7 +9,8 @@
 #include <string.h>
 #include <unistd.h>
 
-/* What is used here of version 1 of QEMU's interface, which QEMU 7.2 and later have. Debian does not ship qemu-plugin.h. */
+/* What is used here of QEMU's interface, which is the same in its versions from 1 on, of QEMU 7.2. A QEMU takes only plugins that name a
+   version that it has, so constant-time.sh looks for one. Debian does not ship qemu-plugin.h. */
 typedef uint64_t qemu_plugin_id_t;
 typedef uint32_t qemu_plugin_meminfo_t;
 struct qemu_plugin_tb;
@@ -25,7 +26,7 @@ uint64_t qemu_plugin_insn_vaddr(const struct qemu_plugin_insn *insn);
 bool qemu_plugin_mem_is_store(qemu_plugin_meminfo_t info);
 
 #define EXPORTED __attribute__((visibility("default")))
-EXPORTED int qemu_plugin_version = 1;
+EXPORTED int qemu_plugin_version = VERSION;
 
 enum { GROUP, SECRET, ON, OFF, MARKS };
 enum { RUNS, READS, WRITES, READ_AND_WRITE = 3 };

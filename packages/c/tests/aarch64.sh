@@ -8,7 +8,7 @@ fail() {
     echo "aarch64.sh: $*" >&2
     exit 1
 }
-for tool in aarch64-linux-gnu-gcc:gcc-aarch64-linux-gnu qemu-aarch64:qemu-user readelf:binutils; do
+for tool in aarch64-linux-gnu-gcc:gcc-aarch64-linux-gnu qemu-aarch64:qemu-user readelf:binutils pkg-config:pkg-config; do
     command -v "${tool%:*}" > /dev/null || fail "${tool%:*} is not there: install ${tool#*:}"
 done
 [ -e /usr/aarch64-linux-gnu/include/stdio.h ] || fail "there is no C library for AArch64: install libc6-dev-arm64-cross"
