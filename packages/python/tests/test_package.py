@@ -74,6 +74,8 @@ class Documents(unittest.TestCase):
 
 class Build(unittest.TestCase):
     def setUp(self):
+        if not find_spec("setuptools"):
+            raise left_out("the wheel: there is no setuptools")
         folder = tempfile.TemporaryDirectory()
         self.addCleanup(folder.cleanup)
         self.folder = pathlib.Path(folder.name)

@@ -6,7 +6,6 @@ import unittest
 from aeadkit import aead, keywrap
 from test_package import left_out
 
-
 try:
     import cryptography
     from cryptography.exceptions import UnsupportedAlgorithm
