@@ -13,7 +13,6 @@ import zipfile
 from importlib.util import find_spec
 
 import aeadkit
-from test_pyca import left_out
 
 FOLDER = pathlib.Path(__file__).resolve().parents[1]
 
@@ -24,6 +23,12 @@ def run(*words, folder=None, data=b"", **environment):
     variables = {**os.environ, "PYTHONPATH": str(path), "PYTHONDONTWRITEBYTECODE": "1", **environment}
     return subprocess.run([sys.executable, *map(str, words)], env=variables, input=data, stdout=subprocess.PIPE,
                           stderr=subprocess.PIPE, cwd=folder)
+
+
+def left_out(reason):
+    """Shows the reason, which unittest hides unless it is verbose."""
+    print(f"left out: {reason}", file=sys.stderr)
+    return unittest.SkipTest(reason)
 
 
 class Documents(unittest.TestCase):
@@ -69,6 +74,8 @@ class Documents(unittest.TestCase):
 
 class Build(unittest.TestCase):
     def setUp(self):
+        if not find_spec("setuptools"):
+            raise left_out("the wheel: there is no setuptools")
         folder = tempfile.TemporaryDirectory()
         self.addCleanup(folder.cleanup)
         self.folder = pathlib.Path(folder.name)

@@ -1,17 +1,10 @@
 """The same calls of cryptography (PyCA) and of this package have the same results and the same exceptions."""
 
 import random
-import sys
 import unittest
 
 from aeadkit import aead, keywrap
-
-
-def left_out(reason):
-    """Shows the reason, which unittest hides unless it is verbose."""
-    print(f"left out: {reason}", file=sys.stderr)
-    return unittest.SkipTest(reason)
-
+from test_package import left_out
 
 try:
     import cryptography
