@@ -9,7 +9,7 @@
 #include <stdint.h>
 #include <string.h>
 
-enum { MOST_ARGUMENTS = 5, LONG_BYTES = 2048, OVERLAP = 17 };
+enum { MOST_ARGUMENTS = 5, LONG_BYTES = 2048 };
 
 /* Raises the exception. */
 static int refused(PyObject *exception, const char *message) {
@@ -106,9 +106,9 @@ FUNCTION(wipe, "s", PyBytes, 0, wiped(&b[0]))
 FUNCTION(seal, "srro", PyBytes, b[2].len + AEADKIT_TAG_BYTES, aeadkit_seal_with(b[0].buf, IN(1), IN(2), IN(3), OUT))
 FUNCTION(open_, "srro", PyBytes, SHORTER(2, AEADKIT_TAG_BYTES), aeadkit_open_with(b[0].buf, IN(1), IN(2), IN(3), OUT))
 FUNCTION(seal_in_place, "srco", PyBytes, AEADKIT_TAG_BYTES,
-         overlaps(b, 2) ? OVERLAP : aeadkit_seal_in_place_with(b[0].buf, IN(1), IN(2), IN(3), out))
+         overlaps(b, 2) ? AEADKIT_OVERLAP : aeadkit_seal_in_place_with(b[0].buf, IN(1), IN(2), IN(3), out))
 FUNCTION(open_in_place, "srcto", PyBytes, 0,
-         overlaps(b, 2) ? OVERLAP : aeadkit_open_in_place_with(b[0].buf, IN(1), IN(2), IN(4), b[3].buf))
+         overlaps(b, 2) ? AEADKIT_OVERLAP : aeadkit_open_in_place_with(b[0].buf, IN(1), IN(2), IN(4), b[3].buf))
 
 FUNCTION(sealer_init, "sro", PyByteArray, AEADKIT_SEALER_BYTES, aeadkit_sealer_init_with(out, b[0].buf, IN(1), IN(2)))
 FUNCTION(sealer_update, "sr", PyBytes, b[1].len, (COPY, aeadkit_sealer_update(b[0].buf, OUT)))
