@@ -56,6 +56,7 @@ def main():
             lines += [f"{build}\t{line}" for line in data.read_text().splitlines()]
             data.unlink()
         lines += [f"default\t{line}" for line in run(HERE / "bench.sh", prefix, "pieces").splitlines()]
+        lines += run(HERE / "bench.sh", prefix, "go").splitlines()
         lines += files(prefix / "bin/aeadkit", room)
     processor = re.search(r"model\s+: (\d+)\nmodel name\s+: (.*)", pathlib.Path("/proc/cpuinfo").read_text())
     head = [f"# {processor[2]}, model {processor[1]}, {datetime.date.today()}; " + ", ".join(map(" ".join, sorted(versions.items()))),

@@ -61,6 +61,17 @@ def long_texts(found):
                               for (kind, direction), rates in rows.items()])
 
 
+def beside_go(found):
+    """Returns the table of short texts beside Go: the library's nanoseconds, and Go's."""
+    lengths = sorted({length for (_, _, keys, _, _, length) in found if keys == "go"})
+    lines = ["| | | " + " | ".join(map(size, lengths)) + " |", "|---|---|" + "---|" * len(lengths)]
+    for build, peers, name in (("default", "plain", "default"), ("avx2", "avx2", "AVX2")):
+        for direction in ("sealing", "opening"):
+            of = [found[build, peers, "go", "ChaCha20-Poly1305", direction, length] for length in lengths]
+            lines.append(f"| {name} | {direction} | " + " | ".join(f"{one['aeadkit']:.0f} / {one['Go']:.0f}" for one in of) + " |")
+    return "\n".join(lines)
+
+
 def sides(found, build, peers, kind, length):
     """Returns the library's time of sealing under a new key, and {peer: time}."""
     of = dict(found[build, peers, "new", kind, "sealing", length])
@@ -120,7 +131,7 @@ def plot(found):
 
 def main():
     found, stale = figures(), []
-    made = {"long texts": long_texts(found), "summary": summary(found)}
+    made = {"long texts": long_texts(found), "summary": summary(found), "beside Go": beside_go(found)}
     for words in ("default plain new", "avx2 avx2 new", "default plain kept", "avx2 avx2 kept", "avx2 all new"):
         made[words] = table(found, *words.split())
 
