@@ -80,7 +80,7 @@ def sides(found, build, peers, kind, length):
 
 def summary(found):
     """Returns the table of README: GB/s of sealing 16 KiB under a new key."""
-    lines = ["| | any x86-64 processor | with AVX2 | the fastest of the others |", "|---|---|---|---|"]
+    lines = ["| | on x86-64-v2 | with AVX2 | the fastest of the others |", "|---|---|---|---|"]
     for kind in ("ChaCha20-Poly1305", "AES-256-GCM", "AES-256-GCM-SIV"):
         plain, _ = sides(found, "default", "plain", kind, 16384)
         wide, others = sides(found, "avx2", "all", kind, 16384)

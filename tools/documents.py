@@ -1,5 +1,5 @@
 #!/usr/bin/env python3
-"""Compares the documents with what they speak of: quotations, links, names of code, and docs/published.vectors.
+"""Compares the documents with what they speak of: quotations, links, names of code, docs/published.vectors, and one advice.
 
 Run without words, it says what differs. documents/sheets.py compares the definitions, and bench/speed.py the figures."""
 
@@ -202,9 +202,27 @@ def published():
     return f"{len(records)} published vectors, {len(records) - len(opened)} of them refused"
 
 
+# ---- The advice which suite to take is the same wherever it stands.
+
+
+def advice():
+    path = "docs/SECURITY.md"
+    flat = {file: " ".join(re.sub(r"(?m)^ *(\*|//[/!]|#) ", "", (TOP / file).read_text()).split()) for file in (path, *ADVISING)}
+    given = re.search(r"Take ChaCha20-Poly1305 with .*? demands it\.", flat[path])[0]
+    for file, text in flat.items():
+        if given not in text:
+            wrong(file, f"the advice of {path} is not there: {given}")
+    return f"one advice in {len(flat)} files"
+
+
+ADVISING = ["README.md", "docs/LIBRARY.md", "packages/c/README.md", "packages/c/include/aeadkit.h", "packages/rust/README.md",
+            "packages/rust/src/suite.rs", "packages/python/README.md", "packages/python/aeadkit/__init__.py",
+            "packages/javascript/README.md", "packages/javascript/aeadkit.d.mts"]
+
+
 if sys.argv[1:]:
     sys.exit(__doc__)
-done = [quotations(), links(), published()]
+done = [quotations(), links(), published(), advice()]
 if faults:
     sys.exit("\n".join(faults))
 print("ok: " + "; ".join(done))

@@ -10,7 +10,7 @@
  * ```
  *
  * **Nonces.** A nonce is 12 bytes long and must never be used twice under one key, whatever the texts are. No call makes nonces, and
- * no call notices a repeat. A counter that is never set back is best; use at most 2^32 random nonces under one key. A sealing in
+ * no call notices a repeat. A counter is the number of the message, the highest byte first, and never set back. A sealing in
  * pieces has used its nonce once it gave ciphertext, also if it is then given up. Two sealings with one nonce under one key give away
  * the XOR of the two texts and enough to forge messages; under AES-GCM-SIV only whether the texts and the associated data were the
  * same.
@@ -24,12 +24,14 @@
  * can have, in the order in which they are looked for. Besides, each throws a `TypeError` for an argument of the wrong kind.
  *
  * **Memory and timing.** A call leaves zeros where its arguments and results stood in the module's memory, but not on the module's
- * stack. Nothing is claimed about timing, and for AES the module looks up tables at addresses that depend on secrets.
+ * stack. Nothing is claimed about timing: the module looks its tables up by an instruction and not in memory, and an engine compiles it
+ * in its own way.
  */
 
 /**
- * The suites: ChaCha20-Poly1305 with a counter as nonce that is stored before it is used; AES-256-GCM-SIV where a nonce may come twice or
- * is drawn at random; AES-GCM where a standard demands it. A tag is 16 bytes long. A suite may be given by its name, as `"aes-256-gcm"`.
+ * The suites. Take ChaCha20-Poly1305 with a counter as nonce, which is stored before it is used; AES-256-GCM-SIV where a nonce may come
+ * twice or nonces are drawn at random, at most 2^32 under one key; and AES-GCM where a standard demands it. A tag is 16 bytes long. A
+ * suite may be given by its name, as `"aes-256-gcm"`.
  */
 export const Suite: {
     /** A key of 32 bytes; texts of up to 2^38 - 64 bytes. */

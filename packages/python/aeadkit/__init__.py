@@ -28,8 +28,8 @@ Opener and a SivSealer run one call at a time, in the order in which the threads
 used in a forked process, since two copies would seal two texts under one nonce.
 
 Memory. The structs that hold keys are wiped by close, at the end of a with statement, and when the object is deleted.
-Python's own bytes are not wiped. No suite looks up memory by a secret byte or branches on one; this was looked for in the
-machine code, and is not proved (docs/SECURITY.md).
+Python's own bytes are not wiped. No suite looks up memory by a secret byte or branches on one. This was looked for in the
+machine code, in the builds and with the lengths that docs/SECURITY.md names, and is not proved.
 """
 
 from __future__ import annotations
@@ -195,10 +195,11 @@ class _HasStruct:
 class Key(_HasStruct):
     """A suite with a key, whose schedule is computed once. Threads may share it, and its copy is the object itself.
 
-    Never seal twice with one nonce under one key. Nothing here notices a repeat. Under ChaCha20-Poly1305 and AES-GCM it gives
-    away the XOR of the two texts and enough to forge messages; under AES-GCM-SIV only whether the messages are the same. Use
-    a counter that is stored before it is used, as 12 bytes with the highest first; where nonces are drawn at random take
-    AES-256-GCM-SIV, and draw at most 2**32 under one key. A sealing in pieces uses its nonce up even if it is never finished.
+    Never seal twice with one nonce under one key. Nothing here notices a repeat. Under ChaCha20-Poly1305 and AES-GCM it
+    gives away the XOR of the two texts and enough to forge messages; under AES-GCM-SIV only whether the messages are the
+    same. Take ChaCha20-Poly1305 with a counter as nonce, which is stored before it is used; AES-256-GCM-SIV where a nonce
+    may come twice or nonces are drawn at random, at most 2^32 under one key; and AES-GCM where a standard demands it. A
+    counter is 12 bytes with the highest first. A sealing in pieces uses its nonce up even if it is never finished.
 
     ValueError if the key is not `suite.key_bytes` long. The calls raise ValueError if the nonce is not 12 bytes long, or if the
     text or the associated data is longer than `suite.text_limit` or `suite.aad_limit`, and StateError after close.

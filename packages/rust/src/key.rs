@@ -15,8 +15,7 @@ use core::fmt;
 ///
 /// Never use a nonce twice under one key; no call notices it. If two texts are sealed with one nonce and key,
 /// ChaCha20-Poly1305 and AES-GCM give away the XOR of the two texts, and enough to forge messages; AES-GCM-SIV gives away only
-/// whether the texts and the associated data were the same. A counter that is never set back is best. Use at most 2^32 random
-/// nonces under one key.
+/// whether the texts and the associated data were the same. [`Suite`] says which suite to take.
 #[derive(Clone)]
 pub struct Key {
     suite: Suite,

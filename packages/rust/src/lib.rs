@@ -36,9 +36,10 @@
 //! authenticate, its output is all zeros; and a second pass or reading in pieces may end with [`Error::SourceChanged`] after it
 //! changed its pieces. Only the calls that return a vector allocate.
 //!
-//! No suite and no key wrap looks up memory by a secret byte or branches on one: this was looked for in the machine code of both
-//! builds of the library, and is not proved. [`Key`] and the states in pieces are wiped when they are dropped. The caller's
-//! slices, the stack, and the places that a key or a state was moved from are not.
+//! No suite and no key wrap looks up memory by a secret byte or branches on one. This was looked for in the machine code, in the
+//! builds and with the lengths that `docs/SECURITY.md` of the repository names, and is not proved. [`Key`] and the states in
+//! pieces are wiped when they are dropped. The caller's slices, the stack, and the places that a key or a state was moved from
+//! are not.
 //!
 //! A call takes up to 12 KiB of stack in the library, or 16 KiB on AArch64, however long the text is.
 //!

@@ -6,8 +6,8 @@ use core::str::FromStr;
 
 /// An algorithm of authenticated encryption. Each takes a nonce of 12 bytes and makes a tag of 16 bytes.
 ///
-/// Take ChaCha20-Poly1305 with a counter as nonce that is stored before it is used; AES-256-GCM-SIV where a nonce may come
-/// twice, or is drawn at random; AES-GCM where a standard demands it.
+/// Take ChaCha20-Poly1305 with a counter as nonce, which is stored before it is used; AES-256-GCM-SIV where a nonce may
+/// come twice or nonces are drawn at random, at most 2^32 under one key; and AES-GCM where a standard demands it.
 ///
 /// The numbers are those of the library's other packages. `Display` and `FromStr` use the names that the command takes.
 #[derive(Clone, Copy, Debug, PartialEq, Eq, Hash)]

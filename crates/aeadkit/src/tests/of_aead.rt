@@ -8,7 +8,7 @@ mod samples;
 mod seal_streams;
 
 use super::digits::{bytes, flip};
-use super::published::{VECTORS, Vector};
+use super::published::{VECTORS, Vector, WITH_AAD};
 use super::shows;
 use aead::Aead;
 use octets::{Fault, Tag};
@@ -47,14 +47,21 @@ fn needs_each_bit(sample: &Sample, sealed: &mut [u8]) -> bool {
     is_needed
 }
 
-// Each published vector, with the cipher that its suite names.
+// A published vector, with the cipher that its suite names.
+fn is_published(rt: &(impl Abort + Alloc<A = Global>), line: &str) {
+    let sample = sample_of(rt, line);
+    let mut text = bytes(rt, Vector::of(line).text);
+    is_sealed(rt, &sample, &mut text);
+    let mut sealed = bytes(rt, Vector::of(line).sealed);
+    shows(rt, needs_each_bit(&sample, &mut sealed), line);
+}
+
 #[test]
 fn published_sealings(rt: HostRuntime) {
     for line in &VECTORS {
-        let sample = sample_of(&rt, line);
-        let mut text = bytes(&rt, Vector::of(line).text);
-        is_sealed(&rt, &sample, &mut text);
-        let mut sealed = bytes(&rt, Vector::of(line).sealed);
-        shows(&rt, needs_each_bit(&sample, &mut sealed), line);
+        is_published(&rt, line);
+    }
+    for line in &WITH_AAD {
+        is_published(&rt, line);
     }
 }

@@ -3,7 +3,7 @@ mod cut;
 mod edited;
 
 use super::devices::OneFile;
-use super::published::{CHACHA_A5, GCM_SIV_WRAPS, PADDED};
+use super::published::{CHACHA_A5, GCM_SIV_WRAPS, PADDED, WITH_AAD};
 use super::runs::{CHECK, runs_over};
 use super::vector_files::{add, file_of, published, with_lines};
 use std::alloc::Global;
@@ -67,12 +67,18 @@ fn published_vectors_in_both_formats(rt: HostRuntime) {
     }
 }
 
+// The file agrees, and also if each of its records is changed and says `invalid`.
+fn agrees_and_is_needed(rt: &(impl Abort + Alloc<A = Global>), file: &[u8], due: &str) {
+    check_gives(rt, file, due);
+    let text = from_utf8(file).expect(rt, "text");
+    check_gives(rt, &changed_records(rt, text), due);
+}
+
 // Other published vectors, in format 2: a long text, a block counter that wraps at 2^32, and texts wrapped with
-// padding.
+// padding; and sealings with associated data.
 #[test]
 fn more_published_vectors(rt: HostRuntime) {
     let file = file_of(&rt, "2", &[CHACHA_A5, GCM_SIV_WRAPS], &PADDED);
-    check_gives(&rt, &file, "records 4");
-    let text = from_utf8(&file).expect(&rt, "text");
-    check_gives(&rt, &changed_records(&rt, text), "records 4");
+    agrees_and_is_needed(&rt, &file, "records 4");
+    agrees_and_is_needed(&rt, &file_of(&rt, "2", &WITH_AAD, &[]), "records 13");
 }
