@@ -37,9 +37,7 @@ impl KeyStreamStart for TwoBlocks {
 
     fn make(key: &Key32, nonce: &Nonce) -> TwoBlocks {
         let mut start = TwoBlocks { bytes: [0; 128] };
-        start
-            .bytes
-            .copy_from_slice(rows::two_blocks(key, 0, nonce).as_flattened());
+        rows::put_two_blocks(key, 0, nonce, &mut start.bytes);
         start
     }
 
