@@ -29,5 +29,8 @@ mod uses;
 pub use lanes::{four_blocks, set_four_starts};
 pub use plan::{BlocksAtOnce, SEVEN_BLOCKS, interleaving_pays};
 pub use rows::block;
-pub use start::{EightBlocks, FiveBlocks, FourBlocks, KeyStreamStart, NineBlocks, TwoBlocks};
+pub use start::{
+    EightBlocks, FiveBlocks, FourBlocks, KeyStreamStart, NineBlocks, SixBlocks, ThreeBlocks,
+    TwoBlocks,
+};
 pub use stream::ChaStream;

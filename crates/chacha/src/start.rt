@@ -4,7 +4,7 @@ ghost use Rattle.std.specs.Prelude.{◌≡◌, ◌%◌, ◌<◌, ◌≤◌, ℕ,
 ghost use Rattle.chacha.specs.Stream.{key_stream_byte};
 
 use crate::{lanes, row_beside, rows};
-use octets::{Idle, Key32, Nonce};
+use octets::{Idle, Key32, Nonce, WIDE};
 
 /// The first blocks of a key stream, from counter 0 on (RFC 8439, 2.4).
 // A type for each number of blocks, so that a short text clears and copies no more bytes than it needs.
@@ -46,6 +46,26 @@ impl KeyStreamStart for TwoBlocks {
     }
 }
 
+/// The three blocks with the counters 0 to 2.
+#[derive(Drop)]
+pub struct ThreeBlocks {
+    bytes: [u8; 192],
+}
+
+impl KeyStreamStart for ThreeBlocks {
+    ghost bytes = { λ s. s.bytes };
+
+    fn make(key: &Key32, nonce: &Nonce) -> ThreeBlocks {
+        let mut start = ThreeBlocks { bytes: [0; 192] };
+        rows::put_three_blocks(key, 0, nonce, &mut start.bytes);
+        start
+    }
+
+    fn blocks(&self) -> &[u8] {
+        &self.bytes
+    }
+}
+
 /// The four blocks with the counters 0 to 3.
 #[derive(Drop)]
 pub struct FourBlocks {
@@ -57,7 +77,11 @@ impl KeyStreamStart for FourBlocks {
 
     fn make(key: &Key32, nonce: &Nonce) -> FourBlocks {
         let mut start = FourBlocks { bytes: [0; 256] };
-        lanes::xor_fours(key, 0, nonce, &mut start.bytes, &mut Idle::new());
+        if WIDE {
+            rows::put_four_blocks(key, 0, nonce, &mut start.bytes);
+        } else {
+            lanes::xor_fours(key, 0, nonce, &mut start.bytes, &mut Idle::new());
+        }
         start
     }
 
@@ -78,6 +102,26 @@ impl KeyStreamStart for FiveBlocks {
     fn make(key: &Key32, nonce: &Nonce) -> FiveBlocks {
         let mut start = FiveBlocks { bytes: [0; 320] };
         row_beside::xor_five_blocks(key, 0, nonce, &mut start.bytes, &mut Idle::new());
+        start
+    }
+
+    fn blocks(&self) -> &[u8] {
+        &self.bytes
+    }
+}
+
+/// The six blocks with the counters 0 to 5.
+#[derive(Drop)]
+pub struct SixBlocks {
+    bytes: [u8; 384],
+}
+
+impl KeyStreamStart for SixBlocks {
+    ghost bytes = { λ s. s.bytes };
+
+    fn make(key: &Key32, nonce: &Nonce) -> SixBlocks {
+        let mut start = SixBlocks { bytes: [0; 384] };
+        rows::put_six_blocks(key, 0, nonce, &mut start.bytes);
         start
     }
 
