@@ -16,7 +16,7 @@ use crate::one_pass::{OnePass, open_and_restore, open_whole, seal_whole};
 use crate::suite::Suite;
 use chacha::{
     BlocksAtOnce, ChaStream, EightBlocks, FiveBlocks, FourBlocks, KeyStreamStart, NineBlocks,
-    SEVEN_BLOCKS, TwoBlocks, block,
+    SEVEN_BLOCKS, SixBlocks, ThreeBlocks, TwoBlocks, block,
 };
 use octets::{Block, Fault, Key32, Nonce, Tag};
 use poly1305::Poly;
@@ -203,8 +203,10 @@ impl Aead for ChaChaPoly {
     fn seal_fitting(&self, nonce: &Nonce, aad: &[u8], text: &mut [u8]) -> Tag {
         match BlocksAtOnce::for_text(text.len()) {
             BlocksAtOnce::Two => self.seal_from::<TwoBlocks>(nonce, aad, text),
+            BlocksAtOnce::Three => self.seal_from::<ThreeBlocks>(nonce, aad, text),
             BlocksAtOnce::Four => self.seal_from::<FourBlocks>(nonce, aad, text),
             BlocksAtOnce::Five => self.seal_from::<FiveBlocks>(nonce, aad, text),
+            BlocksAtOnce::Six => self.seal_from::<SixBlocks>(nonce, aad, text),
             BlocksAtOnce::Eight => self.seal_from::<EightBlocks>(nonce, aad, text),
             BlocksAtOnce::Nine => self.seal_from::<NineBlocks>(nonce, aad, text),
         }
@@ -219,8 +221,10 @@ impl Aead for ChaChaPoly {
     ) -> Result<(), Fault> {
         match BlocksAtOnce::for_text(body.len()) {
             BlocksAtOnce::Two => self.open_from::<TwoBlocks>(nonce, aad, body, tag),
+            BlocksAtOnce::Three => self.open_from::<ThreeBlocks>(nonce, aad, body, tag),
             BlocksAtOnce::Four => self.open_from::<FourBlocks>(nonce, aad, body, tag),
             BlocksAtOnce::Five => self.open_from::<FiveBlocks>(nonce, aad, body, tag),
+            BlocksAtOnce::Six => self.open_from::<SixBlocks>(nonce, aad, body, tag),
             BlocksAtOnce::Eight => self.open_from::<EightBlocks>(nonce, aad, body, tag),
             BlocksAtOnce::Nine => self.open_from::<NineBlocks>(nonce, aad, body, tag),
         }

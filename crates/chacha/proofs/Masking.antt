@@ -2,10 +2,9 @@
 use Rattle.std.proofs.Common.{◌≡◌, ℕ, suc, ◌+◌, ◌-◌, ◌*◌, ◌/◌, ◌%◌, ◌<◌, ◌≤◌, bit_xor, refl, sym, ap, ap₂}
 use Rattle.std.proofs.Common.{◌∙◌, arith}
 use Rattle.std.proofs.Common.{zero, List, [], ◌∷◌, ◌++◌, length, length-append, take, drop, get_or, min}
-use Rattle.std.proofs.Common.{flat_map, append_assoc, replicate}
-use Rattle.std.specs.Simd.Lanes.{Each1}
+use Rattle.std.proofs.Common.{append_assoc, replicate}
 use Rattle.std.specs.Int.Bits.{xor_zero_l}
-use Rattle.std.proofs.lemmas.List.{get_or-take, get_or-drop, get_or_append_left, get_or-append_right}
+use Rattle.std.proofs.lemmas.List.{get_or-take, get_or-drop}
 use Rattle.std.proofs.lemmas.List.{length-take-le, length-drop}
 use Rattle.std.proofs.lemmas.List.{take_at, drop_at, drop-drop, take_all, drop_all, append-nil}
 use Rattle.std.proofs.Math.Seq.{take-add}
@@ -49,41 +48,6 @@ block_bytes key nonce c i below =
     let counter : c ≡ c + i / 64 = omega arith in
     let place : i ≡ i % 64 = omega arith in
     ap₂ (λ (n j : ℕ). get_or (block key n nonce) j 0) counter place
-
--- byte 64 * q + r of concatenated blocks is byte r of block q
-byte_of_blocks : (bs : List (List ℕ)) (q r : ℕ) → Each1 (λ b. length b ≡ 64) bs → q < length bs → r < 64
-    → get_or (flat_map (λ b. b) bs) (64 * q + r) 0 ≡ get_or (get_or bs q []) r 0
-byte_of_blocks [] q r long there below = absurd (omega arith)
-byte_of_blocks (b ∷ bs) zero r long there below =
-    let first : 64 * 0 + r ≡ r = omega arith in
-    ap (λ (n : ℕ). get_or (b ++ flat_map (λ x. x) bs) n 0) first ∙ get_or_append_left b
-    (flat_map (λ x. x) bs) 0 r (omega (arith, long.0))
-byte_of_blocks (b ∷ bs) (suc q) r long there below =
-    let rest : 64 * suc q + r - 64 ≡ 64 * q + r = omega arith in
-    get_or-append_right b (flat_map (λ x. x) bs) 64 (64 * suc q + r) 0 long.0 (omega arith)
-    ∙ ap (λ (n : ℕ). get_or (flat_map (λ x. x) bs) n 0) rest ∙ byte_of_blocks bs q r long.1 (omega arith)
-    below
-
--- block q of two blocks has the counter c + q
-block_of_two : (key nonce : List ℕ) (c q : ℕ) → q < 2
-    → get_or (block key c nonce ∷ block key (c + 1) nonce ∷ []) q [] ≡ block key (c + q) nonce
-block_of_two key nonce c zero h =
-    let same : c ≡ c + 0 = omega arith in ap (λ (n : ℕ). block key n nonce) same
-block_of_two key nonce c (suc zero) h = refl
-block_of_two key nonce c (suc (suc q)) h = absurd (omega arith)
-
--- two blocks are the first bytes of the key stream from their counter on
-two_blocks_bytes : (key nonce : List ℕ) (c i : ℕ) → i < 128
-    → get_or (flat_map (λ (b : List ℕ). b) (block key c nonce ∷ block key (c + 1) nonce ∷ [])) i 0
-    ≡ key_stream_byte key nonce c i
-unfolding key_stream_byte
-two_blocks_bytes key nonce c i below =
-    let bs = block key c nonce ∷ block key (c + 1) nonce ∷ [] in
-    let whole : i ≡ 64 * (i / 64) + i % 64 = omega arith in
-    ap (λ (n : ℕ). get_or (flat_map (λ (b : List ℕ). b) bs) n 0) whole
-    ∙ byte_of_blocks bs (i / 64) (i % 64) (length-block key c nonce, (length-block key (c + 1) nonce, tt {0}))
-    (omega arith) (omega arith)
-    ∙ ap (λ (b : List ℕ). get_or b (i % 64) 0) (block_of_two key nonce c (i / 64) (omega arith))
 
 -- a byte that was 0 becomes the byte of the stream
 masked_zero : (f : ℕ → ℕ) (at i k : ℕ) (xs : List ℕ) → i < length xs → get_or xs i 0 ≡ 0 → k ≡ at + i
@@ -177,7 +141,7 @@ whole_blocks key nonce p xs begins =
 
 -- if a stream agrees with the key stream from the counter p / 64 on, XORing in its bytes from place p mod 64 on masks a run of
 -- bytes at place p
-run_of_stream : (key nonce : List ℕ) (p size n : ℕ) (bytes stream now : List ℕ) → length stream ≡ size
+pub run_of_stream : (key nonce : List ℕ) (p size n : ℕ) (bytes stream now : List ℕ) → length stream ≡ size
     → ((i : ℕ) → i < size → get_or stream i 0 ≡ key_stream_byte key nonce (p / 64) i)
     → n ≡ min (length stream - p % 64) (length bytes)
     → now ≡ xor_bytes (take n bytes) (take n (drop (p % 64) stream)) ++ drop n bytes
@@ -248,26 +212,6 @@ front_and_run key nonce p k n bytes xs ys now stream rest begins whole long spli
     ∙ ap₂ (λ (x y : List ℕ). x ++ y)
     (sym (ap (masked f p) taken ∙ masked-append f p xs (take n ys)
     ∙ ap (λ i. masked f p xs ++ masked f i (take n ys)) place)) (sym dropped)
-
--- two blocks, one after the other, are the first bytes of the key stream from their counter on
-pub bytes_of_two : (key nonce : List ℕ) (c : ℕ) (blocks : List (List ℕ)) (stream : List ℕ)
-    → blocks ≡ block key c nonce ∷ block key (c + 1) nonce ∷ [] → stream ≡ flat_map (λ b. b) blocks
-    → (i : ℕ) → i < 128 → get_or stream i 0 ≡ key_stream_byte key nonce c i
-bytes_of_two key nonce c blocks stream are is_stream i l =
-    ap (λ s. get_or s i 0) (is_stream ∙ ap (λ bs. flat_map (λ (b : List ℕ). b) bs) are)
-    ∙ two_blocks_bytes key nonce c i l
-
--- a run of bytes is masked at place p, if the stream is two blocks, one after the other
-pub run_of_two : (key nonce : List ℕ) (p n : ℕ) (blocks : List (List ℕ)) (bytes stream now : List ℕ)
-    → blocks ≡ block key (p / 64) nonce ∷ block key (p / 64 + 1) nonce ∷ []
-    → stream ≡ flat_map (λ b. b) blocks → length stream ≡ length blocks * 64
-    → n ≡ min (length stream - p % 64) (length bytes)
-    → now ≡ xor_bytes (take n bytes) (take n (drop (p % 64) stream)) ++ drop n bytes
-    → now ≡ masked (key_stream_byte key nonce 0) p (take n bytes) ++ drop n bytes
-run_of_two key nonce p n blocks bytes stream now are is_stream long =
-    let two : length blocks ≡ 2 = ap length are in
-    run_of_stream key nonce p 128 n bytes stream now (omega (arith, long, two))
-    (bytes_of_two key nonce (p / 64) blocks stream are is_stream)
 
 -- a run of bytes is masked at place p, if the stream is one block
 pub run_of_block : (key nonce : List ℕ) (p n : ℕ) (bytes stream now : List ℕ)

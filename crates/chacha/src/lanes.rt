@@ -8,6 +8,7 @@ ghost use Rattle.octets.specs.Bytes.{xor_bytes};
 ghost use Rattle.octets.specs.Masked.{masked};
 ghost use Rattle.chacha.specs.Block.{add_xor_rotate, quarter_round, double_rounds, added, serialized, initial_state, block};
 ghost use Rattle.chacha.specs.Code.Lanes.{lane, AreStarts, HasBlocks, HasStarts};
+ghost use Rattle.chacha.specs.Code.Rows.{four_from};
 ghost use Rattle.chacha.specs.Code.Halves.{half_columns, half_diagonals};
 ghost use Rattle.chacha.specs.Stream.{key_stream_byte};
 
@@ -238,16 +239,16 @@ pub(crate) fn eight_counters(counter: u32) -> u32x8
 
 // The first four lanes of both vectors.
 #[inline(always)]
-fn low_halves(a: u32x8, b: u32x8) -> u32x8
-    ensures { result ≡ take 4 a ++ take 4 b }
+pub(crate) fn low_halves(a: u32x8, b: u32x8) -> u32x8
+    ensures { result ≡ four_from 0 a ++ four_from 0 b }
 {
     a.shuffle(b, [0, 1, 2, 3, 8, 9, 10, 11])
 }
 
 // The last four lanes of both vectors.
 #[inline(always)]
-fn high_halves(a: u32x8, b: u32x8) -> u32x8
-    ensures { result ≡ take 4 (drop 4 a) ++ take 4 (drop 4 b) }
+pub(crate) fn high_halves(a: u32x8, b: u32x8) -> u32x8
+    ensures { result ≡ four_from 4 a ++ four_from 4 b }
 {
     a.shuffle(b, [4, 5, 6, 7, 12, 13, 14, 15])
 }
@@ -328,7 +329,7 @@ fn xor_at(bytes: &mut [u8], at: usize, words: u32x4)
 
 // The words of eight lanes, each with its lowest byte first.
 #[inline(always)]
-fn bytes_of_eight(lanes: u32x8) -> u8x32
+pub(crate) fn bytes_of_eight(lanes: u32x8) -> u8x32
     ensures { result ≡ serialized lanes }
 {
     lanes.to_le_bytes()

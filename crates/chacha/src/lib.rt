@@ -21,7 +21,6 @@ mod plan;
 mod row_beside;
 mod rows;
 mod runs;
-mod single;
 mod start;
 mod state;
 mod stream;
@@ -29,6 +28,9 @@ mod uses;
 
 pub use lanes::{four_blocks, set_four_starts};
 pub use plan::{BlocksAtOnce, SEVEN_BLOCKS, interleaving_pays};
-pub use single::block;
-pub use start::{EightBlocks, FiveBlocks, FourBlocks, KeyStreamStart, NineBlocks, TwoBlocks};
+pub use rows::block;
+pub use start::{
+    EightBlocks, FiveBlocks, FourBlocks, KeyStreamStart, NineBlocks, SixBlocks, ThreeBlocks,
+    TwoBlocks,
+};
 pub use stream::ChaStream;

@@ -50,10 +50,14 @@ pub const SEVEN_BLOCKS: usize = 448;
 pub enum BlocksAtOnce {
     /// The blocks of [`TwoBlocks`](crate::TwoBlocks).
     Two,
+    /// The blocks of [`ThreeBlocks`](crate::ThreeBlocks).
+    Three,
     /// The blocks of [`FourBlocks`](crate::FourBlocks).
     Four,
     /// The blocks of [`FiveBlocks`](crate::FiveBlocks).
     Five,
+    /// The blocks of [`SixBlocks`](crate::SixBlocks).
+    Six,
     /// The blocks of [`EightBlocks`](crate::EightBlocks).
     Eight,
     /// The blocks of [`NineBlocks`](crate::NineBlocks).
@@ -61,25 +65,27 @@ pub enum BlocksAtOnce {
 }
 
 impl BlocksAtOnce {
-    /// Returns how many blocks are computed at once for a text of `length` bytes that is masked from counter 1 on. A block beside
-    /// four or eight others costs little. The later blocks are computed four or eight at a time, and the number is such that few
-    /// of the last ones are in vain.
+    /// Returns how many blocks are computed at once for a text of `length` bytes that is masked from counter 1 on. The later
+    /// blocks are computed four or eight at a time, and the number is such that few of the last ones are in vain: the first block
+    /// has the key of Poly1305, the others take the text up to what fills the runs after them.
+    ///
+    /// In cycles with AVX2, two blocks take 341, four 429, six 557, eight 682 and nine 881: up to 256 bytes a sealing became 1.24 to
+    /// 1.33 times as fast as with four and eight in lanes. Without AVX2, two blocks take 437, three 555, four 655 and five 870: from
+    /// 65 to 128 bytes a sealing became 1.07 times as fast.
     pub fn for_text(length: usize) -> BlocksAtOnce {
-        // Up to 192 bytes, four blocks are enough: three for the text.
-        if WIDE && length > 192 {
-            return match length {
-                0..=SEVEN_BLOCKS => BlocksAtOnce::Eight,
-                // Two blocks leave one for the text. What follows it fills runs of eight, the last one wholly or by half.
-                _ => match length % 512 {
-                    1..=64 | 257..=320 => BlocksAtOnce::Two,
-                    _ => BlocksAtOnce::Nine,
-                },
+        if WIDE {
+            return match length.max(1) % 512 {
+                1..=64 => BlocksAtOnce::Two,
+                65..=192 => BlocksAtOnce::Four,
+                193..=320 => BlocksAtOnce::Six,
+                321..=448 => BlocksAtOnce::Eight,
+                _ => BlocksAtOnce::Nine,
             };
         }
-        // The text takes one, three or four of these blocks. What follows them fills runs of four.
         match length.max(1) % 256 {
             1..=64 => BlocksAtOnce::Two,
-            65..=192 => BlocksAtOnce::Four,
+            65..=128 => BlocksAtOnce::Three,
+            129..=192 => BlocksAtOnce::Four,
             _ => BlocksAtOnce::Five,
         }
     }

@@ -5,15 +5,14 @@ ghost use Rattle.std.specs.Prelude.{◌≡◌, ℕ, ◌+◌, ◌^◌, ◌<◌, L
 ghost use Rattle.octets.specs.Masked.{masked};
 ghost use Rattle.chacha.specs.Block.{double_rounds, serialized, block};
 ghost use Rattle.chacha.specs.Code.Lanes.{lane};
-ghost use Rattle.chacha.specs.Code.Rows.{read_by_rows};
+ghost use Rattle.chacha.specs.Code.Rows.{state_in};
 ghost use Rattle.chacha.specs.Stream.{key_stream_byte};
 
 use crate::lanes::{
     RESERVE, add, eight_counters, four_counters, half_columns, half_diagonals, set_starts,
     xor_eight_serialized, xor_serialized,
 };
-use crate::rows::{column_round, diagonal_round, rows_of, serialized_rows};
-use crate::state::initial_state;
+use crate::rows::Rows;
 use octets::{Idle, Key32, Nonce, Work, xor_into};
 use std::simd::{Simd, u32x4, u32x8};
 
@@ -26,18 +25,18 @@ fn ten_rounds<const N: usize, W: Work>(
     work: &mut W,
 )
     ensures lanes { (j : ℕ) → j < N → lane j x.new ≡ double_rounds 10 (lane j x.old) }
-    ensures row { read_by_rows row.new ≡ double_rounds 10 (read_by_rows row.old) }
+    ensures row { state_in row.new 0 ≡ double_rounds 10 (state_in row.old 0) }
     ensures work { (w : W) → W.reaches w work.old → W.reaches w work.new }
 {
     let mut own = *work;
     'rounds: for _ in 0..10u32 {
         half_columns(x, 16, 12);
-        column_round(row);
+        row.column_round();
         own.step(0);
         half_columns(x, 8, 7);
         own.step(RESERVE);
         half_diagonals(x, 16, 12);
-        diagonal_round(row);
+        row.diagonal_round();
         own.step(0);
         half_diagonals(x, 8, 7);
         own.step(RESERVE);
@@ -63,11 +62,13 @@ fn set_blocks<const N: usize, W: Work>(
 {
     set_starts(x, key, nonce, counters);
     let start = *x;
-    let row_start = rows_of(&initial_state(key, counter, nonce));
+    let row_start = <[u32x4; 4]>::starts_at(key, counter, nonce);
     let mut row = row_start;
     ten_rounds(x, &mut row, work);
     add(x, &start);
-    serialized_rows(&row, &row_start)
+    let mut out = [0; 64];
+    row.put_sums(&row_start, &mut out);
+    out
 }
 
 // XORs the first 320 bytes of the key stream from a counter on into `bytes`, and does forty steps of other work. It is a

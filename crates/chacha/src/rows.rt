@@ -1,14 +1,50 @@
-//! Two blocks of ChaCha20 at once (RFC 8439, 2.3), each by the rows of its state: a vector for a row, a lane for a column.
+//! Blocks of ChaCha20 by the rows of their states (RFC 8439, 2.3): a vector for a row, a lane for a column. A set of rows has one
+//! block in vectors of four words, or two side by side in vectors of eight. Sets that are computed together take hardly longer
+//! than one, since each round waits for the round before. A reader of the crate begins here.
 
-ghost use Rattle.std.specs.Prelude.{◌≡◌, ℕ, ◌+◌, ◌%◌, ◌^◌, ◌<◌, ◌∷◌, ◌++◌, [], slice_index};
-ghost use Rattle.chacha.specs.Block.{column_round, diagonal_round, double_rounds, added, serialized, block};
-ghost use Rattle.chacha.specs.Code.Rows.{four_of, read_by_rows};
+ghost use Rattle.std.specs.Prelude.{◌≡◌, ℕ, ◌+◌, ◌*◌, ◌%◌, ◌^◌, ◌<◌, ◌≤◌, ◌∷◌, ◌++◌, [], List, length, take, drop};
+ghost use Rattle.std.specs.Prelude.{slice_index};
+ghost use Rattle.octets.specs.Bytes.{AreBytes};
+ghost use Rattle.chacha.specs.Block.{column_round, diagonal_round, added, serialized, initial_state, block};
+ghost use Rattle.chacha.specs.Code.Rows.{four_from, read_by_rows, state_in, IsKeyStream, one_some, two_some};
 
-use crate::lanes::{bytes_of, quarter_round, sum};
-use crate::single::put;
+use crate::lanes::{bytes_of, bytes_of_eight, high_halves, low_halves, quarter_round, sum};
 use crate::state::initial_state;
-use octets::{Key32, Nonce};
-use std::simd::u32x4;
+use octets::{Key32, Nonce, WIDE};
+use std::simd::{u32x4, u32x8};
+
+// The states of blocks, side by side in four rows.
+pub(crate) trait Rows: Copy {
+    // The words of state n.
+    ghost state: { Self → ℕ → List ℕ };
+
+    // The number of states.
+    ghost COUNT: { ℕ };
+
+    const COUNT: u32;
+
+    // Returns the states from which the blocks with the counters `counter`, `counter + 1` and so on start.
+    fn starts_at(key: &Key32, counter: u32, nonce: &Nonce) -> Self
+        requires { counter + COUNT ≤ 2 ^ 32 }
+        ensures { (n : ℕ) → n < COUNT → state result n ≡ initial_state key.now (counter + n) nonce.now };
+
+    // The quarter round on each column, which is a lane (RFC 8439, 2.3).
+    fn column_round(&mut self)
+        ensures { (n : ℕ) → n < COUNT → state self.new n ≡ column_round (state self.old n) };
+
+    // The quarter round on each diagonal, which is moved into a lane and back (RFC 8439, 2.3). The words of the second row stay,
+    // since a quarter round makes them last.
+    fn diagonal_round(&mut self)
+        ensures { (n : ℕ) → n < COUNT → state self.new n ≡ diagonal_round (state self.old n) };
+
+    // Adds the start to each state and writes the sums, serialized one state after the other.
+    fn put_sums(&self, start: &Self, out: &mut [u8])
+        requires { length out.old ≡ 64 * COUNT }
+        ensures { (n : ℕ) → n < COUNT → take 64 (drop (64 * n) out.new)
+            ≡ serialized (added (state self.now n) (state start.now n)) };
+
+    ghost some: { 0 < COUNT };
+}
 
 // The row with its words moved one lane down.
 #[inline(always)]
@@ -34,66 +70,10 @@ fn moved_by_three(row: u32x4) -> u32x4
     row.swizzle([3, 0, 1, 2])
 }
 
-// The quarter round on each column, which is a lane (RFC 8439, 2.3).
-#[inline(always)]
-pub(crate) fn column_round(x: &mut [u32x4; 4])
-    ensures { read_by_rows x.new ≡ column_round (read_by_rows x.old) }
-{
-    quarter_round(x, 0, 1, 2, 3);
-}
-
-// The quarter round on each diagonal, which is moved into a lane and back (RFC 8439, 2.3).
-#[inline(always)]
-pub(crate) fn diagonal_round(x: &mut [u32x4; 4])
-    ensures { read_by_rows x.new ≡ diagonal_round (read_by_rows x.old) }
-{
-    let mut moved = [
-        x[0],
-        moved_by_one(x[1]),
-        moved_by_two(x[2]),
-        moved_by_three(x[3]),
-    ];
-    quarter_round(&mut moved, 0, 1, 2, 3);
-    let next = [
-        moved[0],
-        moved_by_three(moved[1]),
-        moved_by_two(moved[2]),
-        moved_by_one(moved[3]),
-    ];
-    *x = next;
-}
-
-// Ten double rounds on each of two states: the two have no word in common, and their steps overlap.
-#[inline(always)]
-fn ten_rounds(x: &mut [u32x4; 4], y: &mut [u32x4; 4])
-    ensures first { read_by_rows x.new ≡ double_rounds 10 (read_by_rows x.old) }
-    ensures second { read_by_rows y.new ≡ double_rounds 10 (read_by_rows y.old) }
-{
-    'rounds: for _round in 0..10u32 {
-        column_round(x);
-        column_round(y);
-        diagonal_round(x);
-        diagonal_round(y);
-    }
-}
-
-// The rows of a state of sixteen words.
-#[inline(always)]
-pub(crate) fn rows_of(words: &[u32; 16]) -> [u32x4; 4]
-    ensures { read_by_rows result ≡ words.now }
-{
-    [
-        u32x4::from_array([words[0], words[1], words[2], words[3]]),
-        u32x4::from_array([words[4], words[5], words[6], words[7]]),
-        u32x4::from_array([words[8], words[9], words[10], words[11]]),
-        u32x4::from_array([words[12], words[13], words[14], words[15]]),
-    ]
-}
-
 // Serializes the words of a row, each with its lowest byte first.
 #[inline(always)]
 fn serialized_row(row: u32x4) -> [u8; 16]
-    ensures { result ≡ serialized (four_of row) }
+    ensures { result ≡ serialized (four_from 0 row) }
 {
     bytes_of(row)
 }
@@ -101,33 +81,294 @@ fn serialized_row(row: u32x4) -> [u8; 16]
 // Adds the words of two rows and serializes the sums.
 #[inline(always)]
 fn serialized_sum(row: u32x4, start: u32x4) -> [u8; 16]
-    ensures { result ≡ serialized (added (four_of row) (four_of start)) }
+    ensures { result ≡ serialized (added (four_from 0 row) (four_from 0 start)) }
 {
     serialized_row(sum(row, start))
 }
 
-// Adds the start to the state and serializes the sum.
+// Copies bytes into `out`, starting at offset `at`.
 #[inline(always)]
-pub(crate) fn serialized_rows(x: &[u32x4; 4], start: &[u32x4; 4]) -> [u8; 64]
-    ensures { result ≡ serialized (added (read_by_rows x.now) (read_by_rows start.now)) }
+fn put(out: &mut [u8], at: usize, bytes: &[u8])
+    requires { at + length bytes.now ≤ length out.old }
+    ensures { out.new ≡ take at out.old ++ bytes.now ++ drop (at + length bytes.now) out.old }
+{
+    out[at..at + bytes.len()].copy_from_slice(bytes);
+}
+
+// One block.
+impl Rows for [u32x4; 4] {
+    ghost state = { state_in };
+
+    ghost COUNT = { 1 };
+
+    const COUNT: u32 = 1;
+
+    #[inline(always)]
+    fn starts_at(key: &Key32, counter: u32, nonce: &Nonce) -> [u32x4; 4] {
+        let words = initial_state(key, counter, nonce);
+        [
+            u32x4::from_array([words[0], words[1], words[2], words[3]]),
+            u32x4::from_array([words[4], words[5], words[6], words[7]]),
+            u32x4::from_array([words[8], words[9], words[10], words[11]]),
+            u32x4::from_array([words[12], words[13], words[14], words[15]]),
+        ]
+    }
+
+    #[inline(always)]
+    fn column_round(&mut self) {
+        quarter_round(self, 0, 1, 2, 3);
+    }
+
+    #[inline(always)]
+    fn diagonal_round(&mut self) {
+        let mut moved = [
+            moved_by_three(self[0]),
+            self[1],
+            moved_by_one(self[2]),
+            moved_by_two(self[3]),
+        ];
+        quarter_round(&mut moved, 0, 1, 2, 3);
+        let next = [
+            moved_by_one(moved[0]),
+            moved[1],
+            moved_by_three(moved[2]),
+            moved_by_two(moved[3]),
+        ];
+        *self = next;
+    }
+
+    #[inline(always)]
+    fn put_sums(&self, start: &[u32x4; 4], out: &mut [u8]) {
+        put(out, 0, &serialized_sum(self[0], start[0]));
+        put(out, 16, &serialized_sum(self[1], start[1]));
+        put(out, 32, &serialized_sum(self[2], start[2]));
+        put(out, 48, &serialized_sum(self[3], start[3]));
+    }
+
+    ghost some = { one_some };
+}
+
+// Each half of the row with its words moved one lane down.
+#[inline(always)]
+fn halves_moved_by_one(row: u32x8) -> u32x8
+    ensures { result ≡ slice_index row 1 ∷ slice_index row 2 ∷ slice_index row 3 ∷ slice_index row 0
+        ∷ slice_index row 5 ∷ slice_index row 6 ∷ slice_index row 7 ∷ slice_index row 4 ∷ [] }
+{
+    row.swizzle([1, 2, 3, 0, 5, 6, 7, 4])
+}
+
+// Each half of the row with its words moved two lanes down.
+#[inline(always)]
+fn halves_moved_by_two(row: u32x8) -> u32x8
+    ensures { result ≡ slice_index row 2 ∷ slice_index row 3 ∷ slice_index row 0 ∷ slice_index row 1
+        ∷ slice_index row 6 ∷ slice_index row 7 ∷ slice_index row 4 ∷ slice_index row 5 ∷ [] }
+{
+    row.swizzle([2, 3, 0, 1, 6, 7, 4, 5])
+}
+
+// Each half of the row with its words moved three lanes down.
+#[inline(always)]
+fn halves_moved_by_three(row: u32x8) -> u32x8
+    ensures { result ≡ slice_index row 3 ∷ slice_index row 0 ∷ slice_index row 1 ∷ slice_index row 2
+        ∷ slice_index row 7 ∷ slice_index row 4 ∷ slice_index row 5 ∷ slice_index row 6 ∷ [] }
+{
+    row.swizzle([3, 0, 1, 2, 7, 4, 5, 6])
+}
+
+// Writes the words of both vectors, each word with its lowest byte first.
+#[inline(always)]
+fn put_two(out: &mut [u8], first: u32x8, second: u32x8)
+    requires { length out.old ≡ 64 }
+    ensures { out.new ≡ serialized first ++ serialized second }
+{
+    let (front, back) = out.split_at_mut(32);
+    front.copy_from_slice(&bytes_of_eight(first).to_array());
+    back.copy_from_slice(&bytes_of_eight(second).to_array());
+}
+
+// Two blocks, one in each half of the rows.
+impl Rows for [u32x8; 4] {
+    ghost state = { state_in };
+
+    ghost COUNT = { 2 };
+
+    const COUNT: u32 = 2;
+
+    #[inline(always)]
+    fn starts_at(key: &Key32, counter: u32, nonce: &Nonce) -> [u32x8; 4] {
+        let w = initial_state(key, counter, nonce);
+        [
+            u32x8::from_array([w[0], w[1], w[2], w[3], w[0], w[1], w[2], w[3]]),
+            u32x8::from_array([w[4], w[5], w[6], w[7], w[4], w[5], w[6], w[7]]),
+            u32x8::from_array([w[8], w[9], w[10], w[11], w[8], w[9], w[10], w[11]]),
+            u32x8::from_array([w[12], w[13], w[14], w[15], counter + 1, w[13], w[14], w[15]]),
+        ]
+    }
+
+    #[inline(always)]
+    fn column_round(&mut self) {
+        quarter_round(self, 0, 1, 2, 3);
+    }
+
+    #[inline(always)]
+    fn diagonal_round(&mut self) {
+        let mut moved = [
+            halves_moved_by_three(self[0]),
+            self[1],
+            halves_moved_by_one(self[2]),
+            halves_moved_by_two(self[3]),
+        ];
+        quarter_round(&mut moved, 0, 1, 2, 3);
+        let next = [
+            halves_moved_by_one(moved[0]),
+            moved[1],
+            halves_moved_by_three(moved[2]),
+            halves_moved_by_two(moved[3]),
+        ];
+        *self = next;
+    }
+
+    #[inline(always)]
+    fn put_sums(&self, start: &[u32x8; 4], out: &mut [u8]) {
+        let a = sum(self[0], start[0]);
+        let b = sum(self[1], start[1]);
+        let c = sum(self[2], start[2]);
+        let d = sum(self[3], start[3]);
+        let (first, second) = out.split_at_mut(64);
+        put_two(first, low_halves(a, b), low_halves(c, d));
+        put_two(second, high_halves(a, b), high_halves(c, d));
+    }
+
+    ghost some = { two_some };
+}
+
+// Writes the blocks of one set from a counter on.
+#[inline(always)]
+fn put_set<R: Rows>(key: &Key32, counter: u32, nonce: &Nonce, out: &mut [u8])
+    requires counters { counter + R.COUNT ≤ 2 ^ 32 }
+    requires size { length out.old ≡ 64 * R.COUNT }
+    ensures { IsKeyStream out.new key.now counter nonce.now }
+{
+    let start = R::starts_at(key, counter, nonce);
+    let mut x = start;
+    'rounds: for _round in 0..10u32 {
+        x.column_round();
+        x.diagonal_round();
+    }
+    x.put_sums(&start, out);
+}
+
+// Writes the blocks of two sets from a counter on, which are computed together.
+#[inline(always)]
+fn put_two_sets<R: Rows>(key: &Key32, counter: u32, nonce: &Nonce, out: &mut [u8])
+    requires counters { counter + 2 * R.COUNT ≤ 2 ^ 32 }
+    requires size { length out.old ≡ 2 * (64 * R.COUNT) }
+    ensures { IsKeyStream out.new key.now counter nonce.now }
+{
+    let start_x = R::starts_at(key, counter, nonce);
+    let start_y = R::starts_at(key, counter + R::COUNT, nonce);
+    let mut x = start_x;
+    let mut y = start_y;
+    'rounds: for _round in 0..10u32 {
+        x.column_round();
+        y.column_round();
+        x.diagonal_round();
+        y.diagonal_round();
+    }
+    let (front, back) = out.split_at_mut(out.len() / 2);
+    x.put_sums(&start_x, front);
+    y.put_sums(&start_y, back);
+}
+
+// Writes the blocks of three sets from a counter on, which are computed together.
+#[inline(always)]
+fn put_three_sets<R: Rows>(key: &Key32, counter: u32, nonce: &Nonce, out: &mut [u8])
+    requires counters { counter + 3 * R.COUNT ≤ 2 ^ 32 }
+    requires size { length out.old ≡ 3 * (64 * R.COUNT) }
+    ensures { IsKeyStream out.new key.now counter nonce.now }
+{
+    let start_x = R::starts_at(key, counter, nonce);
+    let start_y = R::starts_at(key, counter + R::COUNT, nonce);
+    let start_z = R::starts_at(key, counter + 2 * R::COUNT, nonce);
+    let mut x = start_x;
+    let mut y = start_y;
+    let mut z = start_z;
+    'rounds: for _round in 0..10u32 {
+        x.column_round();
+        y.column_round();
+        z.column_round();
+        x.diagonal_round();
+        y.diagonal_round();
+        z.diagonal_round();
+    }
+    let (front, rest) = out.split_at_mut(out.len() / 3);
+    let (middle, back) = rest.split_at_mut(rest.len() / 2);
+    x.put_sums(&start_x, front);
+    y.put_sums(&start_y, middle);
+    z.put_sums(&start_z, back);
+}
+
+// Writes the two blocks from a counter on.
+#[inline(never)]
+pub(crate) fn put_two_blocks(key: &Key32, counter: u32, nonce: &Nonce, out: &mut [u8])
+    requires counters { counter + 2 ≤ 2 ^ 32 }
+    requires size { length out.old ≡ 128 }
+    ensures { IsKeyStream out.new key.now counter nonce.now }
+{
+    if WIDE {
+        put_set::<[u32x8; 4]>(key, counter, nonce, out);
+    } else {
+        put_two_sets::<[u32x4; 4]>(key, counter, nonce, out);
+    }
+}
+
+// Writes the three blocks from a counter on.
+#[inline(never)]
+pub(crate) fn put_three_blocks(key: &Key32, counter: u32, nonce: &Nonce, out: &mut [u8])
+    requires counters { counter + 3 ≤ 2 ^ 32 }
+    requires size { length out.old ≡ 192 }
+    ensures { IsKeyStream out.new key.now counter nonce.now }
+{
+    put_three_sets::<[u32x4; 4]>(key, counter, nonce, out);
+}
+
+// Writes the four blocks from a counter on, in two pairs.
+#[inline(never)]
+pub(crate) fn put_four_blocks(key: &Key32, counter: u32, nonce: &Nonce, out: &mut [u8])
+    requires counters { counter + 4 ≤ 2 ^ 32 }
+    requires size { length out.old ≡ 256 }
+    ensures { IsKeyStream out.new key.now counter nonce.now }
+{
+    put_two_sets::<[u32x8; 4]>(key, counter, nonce, out);
+}
+
+// Writes the six blocks from a counter on, in three pairs.
+#[inline(never)]
+pub(crate) fn put_six_blocks(key: &Key32, counter: u32, nonce: &Nonce, out: &mut [u8])
+    requires counters { counter + 6 ≤ 2 ^ 32 }
+    requires size { length out.old ≡ 384 }
+    ensures { IsKeyStream out.new key.now counter nonce.now }
+{
+    put_three_sets::<[u32x8; 4]>(key, counter, nonce, out);
+}
+
+// The block of a key, a counter and a nonce. It is a function of its own, since the proof knows of a result that it is bytes.
+#[inline(always)]
+fn block_by_rows(key: &Key32, counter: u32, nonce: &Nonce) -> [u8; 64]
+    ensures { result ≡ block key.now counter nonce.now }
 {
     let mut out = [0; 64];
-    put(&mut out, 0, &serialized_sum(x[0], start[0]));
-    put(&mut out, 16, &serialized_sum(x[1], start[1]));
-    put(&mut out, 32, &serialized_sum(x[2], start[2]));
-    put(&mut out, 48, &serialized_sum(x[3], start[3]));
+    put_set::<[u32x4; 4]>(key, counter, nonce, &mut out);
     out
 }
 
-// The two blocks with the counters `counter` and `counter + 1` (RFC 8439, 2.3), in the time of one.
-pub(crate) fn two_blocks(key: &Key32, counter: u32, nonce: &Nonce) -> [[u8; 64]; 2]
-    requires { counter + 1 < 2 ^ 32 }
-    ensures { result ≡ block key.now counter nonce.now ∷ block key.now (counter + 1) nonce.now ∷ [] }
+/// Returns the block of 64 bytes of a key, a counter and a nonce (RFC 8439, 2.3).
+///
+/// A block must never be used twice: under one key each pair of a nonce and a counter masks at most 64 bytes. Two texts that
+/// are XORed with one block give away their XOR, and whoever knows one of them knows the block and the other.
+pub fn block(key: &Key32, counter: u32, nonce: &Nonce) -> [u8; 64]
+    ensures value { result ≡ block key.now counter nonce.now }
+    ensures are_bytes { AreBytes 64 result }
 {
-    let first = rows_of(&initial_state(key, counter, nonce));
-    let second = rows_of(&initial_state(key, counter + 1, nonce));
-    let mut x = first;
-    let mut y = second;
-    ten_rounds(&mut x, &mut y);
-    [serialized_rows(&x, &first), serialized_rows(&y, &second)]
+    block_by_rows(key, counter, nonce)
 }

@@ -4,7 +4,7 @@ ghost use Rattle.std.specs.Prelude.{◌≡◌, ◌%◌, ◌<◌, ◌≤◌, ℕ,
 ghost use Rattle.chacha.specs.Stream.{key_stream_byte};
 
 use crate::{lanes, row_beside, rows};
-use octets::{Idle, Key32, Nonce};
+use octets::{Idle, Key32, Nonce, WIDE};
 
 /// The first blocks of a key stream, from counter 0 on (RFC 8439, 2.4).
 // A type for each number of blocks, so that a short text clears and copies no more bytes than it needs.
@@ -37,9 +37,27 @@ impl KeyStreamStart for TwoBlocks {
 
     fn make(key: &Key32, nonce: &Nonce) -> TwoBlocks {
         let mut start = TwoBlocks { bytes: [0; 128] };
+        rows::put_two_blocks(key, 0, nonce, &mut start.bytes);
         start
-            .bytes
-            .copy_from_slice(rows::two_blocks(key, 0, nonce).as_flattened());
+    }
+
+    fn blocks(&self) -> &[u8] {
+        &self.bytes
+    }
+}
+
+/// The three blocks with the counters 0 to 2.
+#[derive(Drop)]
+pub struct ThreeBlocks {
+    bytes: [u8; 192],
+}
+
+impl KeyStreamStart for ThreeBlocks {
+    ghost bytes = { λ s. s.bytes };
+
+    fn make(key: &Key32, nonce: &Nonce) -> ThreeBlocks {
+        let mut start = ThreeBlocks { bytes: [0; 192] };
+        rows::put_three_blocks(key, 0, nonce, &mut start.bytes);
         start
     }
 
@@ -59,7 +77,11 @@ impl KeyStreamStart for FourBlocks {
 
     fn make(key: &Key32, nonce: &Nonce) -> FourBlocks {
         let mut start = FourBlocks { bytes: [0; 256] };
-        lanes::xor_fours(key, 0, nonce, &mut start.bytes, &mut Idle::new());
+        if WIDE {
+            rows::put_four_blocks(key, 0, nonce, &mut start.bytes);
+        } else {
+            lanes::xor_fours(key, 0, nonce, &mut start.bytes, &mut Idle::new());
+        }
         start
     }
 
@@ -80,6 +102,26 @@ impl KeyStreamStart for FiveBlocks {
     fn make(key: &Key32, nonce: &Nonce) -> FiveBlocks {
         let mut start = FiveBlocks { bytes: [0; 320] };
         row_beside::xor_five_blocks(key, 0, nonce, &mut start.bytes, &mut Idle::new());
+        start
+    }
+
+    fn blocks(&self) -> &[u8] {
+        &self.bytes
+    }
+}
+
+/// The six blocks with the counters 0 to 5.
+#[derive(Drop)]
+pub struct SixBlocks {
+    bytes: [u8; 384],
+}
+
+impl KeyStreamStart for SixBlocks {
+    ghost bytes = { λ s. s.bytes };
+
+    fn make(key: &Key32, nonce: &Nonce) -> SixBlocks {
+        let mut start = SixBlocks { bytes: [0; 384] };
+        rows::put_six_blocks(key, 0, nonce, &mut start.bytes);
         start
     }
 

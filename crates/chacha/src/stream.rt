@@ -1,5 +1,5 @@
 //! The key stream of ChaCha20 (RFC 8439, 2.4), XORed into a text that comes in pieces. Each part of a piece takes the form of
-//! `lanes`, `row_beside`, `rows` or `single` that fits it.
+//! `lanes`, `row_beside` or `rows` that fits it.
 
 ghost use Rattle.std.specs.Prelude.{◌≡◌, ℕ, ◌+◌, ◌-◌, ◌*◌, ◌^◌, ◌<◌, ◌≤◌, ◌++◌, List, [], length, take, drop};
 ghost use Rattle.std.specs.Prelude.{min, MatchResult};
@@ -11,7 +11,7 @@ use crate::beside::{hash_beside, mask_beside};
 use crate::plan::{
     EIGHT_PAY, FIVE_PAY, FOUR_PAY, HALF_IN_PLACE, has_run_of_eight, has_run_of_four,
 };
-use crate::{lanes, row_beside, rows, single};
+use crate::{lanes, row_beside, rows};
 use octets::{BlockWork, Fault, Idle, Key32, Nonce, Order, Stream, WIDE, Work, xor_into};
 
 // The length in bytes of the key stream from counter 0 on: 2^32 blocks of 64 bytes.
@@ -194,10 +194,11 @@ fn xor_run<W: Work>(
         return xor_part(&stream, skip, bytes);
     }
     if counter <= u32::MAX - 1 {
-        let blocks = rows::two_blocks(key, counter, nonce);
-        return xor_part(blocks.as_flattened(), skip, bytes);
+        let mut stream = [0; 128];
+        rows::put_two_blocks(key, counter, nonce, &mut stream);
+        return xor_part(&stream, skip, bytes);
     }
-    xor_part(&single::block(key, counter, nonce), skip, bytes)
+    xor_part(&rows::block(key, counter, nonce), skip, bytes)
 }
 
 // XORs the bytes of `stream` from offset `skip` on into the first bytes, and returns their number. It is a separate

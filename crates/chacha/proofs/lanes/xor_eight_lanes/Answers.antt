@@ -1,5 +1,6 @@
-use Rattle.std.proofs.Common.{◌≡◌, ℕ, ◌+◌, ◌*◌, ◌++◌, List, ◌∙◌, ap₂, take, drop, arith, length}
+use Rattle.std.proofs.Common.{◌≡◌, ℕ, ◌+◌, ◌*◌, ◌++◌, List, ◌∙◌, ap₂, arith, length}
 use Rattle.chacha.specs.Code.Lanes.{lane}
+use Rattle.chacha.specs.Code.Rows.{four_from}
 use Rattle.chacha.proofs.SideBySide.{xored_none, xored_more, xored_all, lane_eight}
 use Rattle.chacha.proofs.lanes.xor_eight_lanes.Goals as goal
 
@@ -27,28 +28,28 @@ eights-preserved c =
     xored_more x j was mid now part (8 * q) 8 (8 * (q + 1)) (32 * q) c.told-x long (omega (arith, below))
     (omega arith) (omega arith) in (
       more 0 c.args.first.now c.eights.first _ _ c.requires.front.0 held.0
-          (c.low_halves.ensures ∙ ap₂ (λ (y z : List ℕ). take 4 y ++ take 4 z) low.first high.first
+          (c.low_halves.ensures ∙ ap₂ (λ (y z : List ℕ). four_from 0 y ++ four_from 0 z) low.first high.first
           ∙ lane_eight x 0 (8 * q) c.told-x (omega (arith, below))) c.xor_eight_at.ensures,
       more 1 c.args.second.now c.eights.second _ _ c.requires.front.1 held.1
-          (c.low_halves-in-eights.ensures ∙ ap₂ (λ (y z : List ℕ). take 4 y ++ take 4 z) low.second high.second
+          (c.low_halves-in-eights.ensures ∙ ap₂ (λ (y z : List ℕ). four_from 0 y ++ four_from 0 z) low.second high.second
           ∙ lane_eight x 1 (8 * q) c.told-x (omega (arith, below))) c.xor_eight_at-in-eights.ensures,
       more 2 c.args.third.now c.eights.third _ _ c.requires.front.2 held.2
-          (c.low_halves-in-eights-2.ensures ∙ ap₂ (λ (y z : List ℕ). take 4 y ++ take 4 z) low.third high.third
+          (c.low_halves-in-eights-2.ensures ∙ ap₂ (λ (y z : List ℕ). four_from 0 y ++ four_from 0 z) low.third high.third
           ∙ lane_eight x 2 (8 * q) c.told-x (omega (arith, below))) c.xor_eight_at-in-eights-2.ensures,
       more 3 c.args.fourth.now c.eights.fourth _ _ c.requires.front.3 held.3
-          (c.low_halves-in-eights-3.ensures ∙ ap₂ (λ (y z : List ℕ). take 4 y ++ take 4 z) low.fourth high.fourth
+          (c.low_halves-in-eights-3.ensures ∙ ap₂ (λ (y z : List ℕ). four_from 0 y ++ four_from 0 z) low.fourth high.fourth
           ∙ lane_eight x 3 (8 * q) c.told-x (omega (arith, below))) c.xor_eight_at-in-eights-3.ensures,
       more 4 c.args.fifth.now c.eights.fifth _ _ c.requires.back.0 held.4
-          (c.high_halves.ensures ∙ ap₂ (λ (y z : List ℕ). take 4 (drop 4 y) ++ take 4 (drop 4 z)) low.first high.first
+          (c.high_halves.ensures ∙ ap₂ (λ (y z : List ℕ). four_from 4 y ++ four_from 4 z) low.first high.first
           ∙ lane_eight x 4 (8 * q) c.told-x (omega (arith, below))) c.xor_eight_at-in-eights-4.ensures,
       more 5 c.args.sixth.now c.eights.sixth _ _ c.requires.back.1 held.5
-          (c.high_halves-in-eights.ensures ∙ ap₂ (λ (y z : List ℕ). take 4 (drop 4 y) ++ take 4 (drop 4 z)) low.second high.second
+          (c.high_halves-in-eights.ensures ∙ ap₂ (λ (y z : List ℕ). four_from 4 y ++ four_from 4 z) low.second high.second
           ∙ lane_eight x 5 (8 * q) c.told-x (omega (arith, below))) c.xor_eight_at-in-eights-5.ensures,
       more 6 c.args.seventh.now c.eights.seventh _ _ c.requires.back.2 held.6
-          (c.high_halves-in-eights-2.ensures ∙ ap₂ (λ (y z : List ℕ). take 4 (drop 4 y) ++ take 4 (drop 4 z)) low.third high.third
+          (c.high_halves-in-eights-2.ensures ∙ ap₂ (λ (y z : List ℕ). four_from 4 y ++ four_from 4 z) low.third high.third
           ∙ lane_eight x 6 (8 * q) c.told-x (omega (arith, below))) c.xor_eight_at-in-eights-6.ensures,
       more 7 c.args.eighth.now c.eights.eighth _ _ c.requires.back.3 held.7
-          (c.high_halves-in-eights-3.ensures ∙ ap₂ (λ (y z : List ℕ). take 4 (drop 4 y) ++ take 4 (drop 4 z)) low.fourth high.fourth
+          (c.high_halves-in-eights-3.ensures ∙ ap₂ (λ (y z : List ℕ). four_from 4 y ++ four_from 4 z) low.fourth high.fourth
           ∙ lane_eight x 7 (8 * q) c.told-x (omega (arith, below))) c.xor_eight_at-in-eights-7.ensures,
     )
 

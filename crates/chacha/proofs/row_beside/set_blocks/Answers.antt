@@ -1,6 +1,8 @@
-use Rattle.std.proofs.Common.{get_or, ◌∙◌, ap, ap₂}
-use Rattle.chacha.specs.Block.{double_rounds, added, serialized, block_from, block}
+use Rattle.std.proofs.Common.{◌≡◌, get_or}
+use Rattle.chacha.specs.Block.{double_rounds}
 use Rattle.chacha.specs.Code.Lanes.{lane}
+use Rattle.chacha.specs.Code.Rows.{state_in}
+use Rattle.chacha.proofs.ByRows.{blocks_put, one_block, only_first}
 use Rattle.chacha.proofs.SideBySide.{lane_block}
 use Rattle.chacha.proofs.row_beside.set_blocks.Goals as goal
 
@@ -12,7 +14,12 @@ returns-clause-lanes g c = λ j l.
     (c.ten_rounds.ensures.lanes j l) (c.add.ensures j l)
 
 pub returns-clause-row : goal.returns-clause-row
-unfolding block block_from
 returns-clause-row g c =
-    let start = c.rows_of-row_start.ensures ∙ c.initial_state.ensures in
-    c.serialized_rows.ensures ∙ ap serialized (ap₂ added (c.ten_rounds.ensures.row ∙ ap (double_rounds 10) start) start)
+    let key = c.args.key.now in
+    let nonce = c.args.nonce.now in
+    let start = c.starts_at-row_start.result in
+    one_block key nonce c.args.counter c.put_sums.new.out c.put_sums.auto.out
+    (blocks_put key nonce c.args.counter 1 c.put_sums.new.out (state_in start) (state_in c.ten_rounds.new.row)
+    c.put_sums.auto.out c.starts_at-row_start.ensures
+    (only_first (λ n. state_in c.ten_rounds.new.row n ≡ double_rounds 10 (state_in start n)) c.ten_rounds.ensures.row)
+    c.put_sums.ensures)

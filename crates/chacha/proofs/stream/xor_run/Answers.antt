@@ -1,5 +1,5 @@
 use Rattle.std.proofs.Common.{ℕ, ◌*◌, ◌/◌, ◌++◌, ◌∙◌, ap, refl, arith, length, take, drop}
-use Rattle.chacha.proofs.Masking.{whole_blocks, run_of_zeros, front_and_run, run_of_two, run_of_block}
+use Rattle.chacha.proofs.Masking.{whole_blocks, run_of_zeros, front_and_run, run_of_stream, run_of_block}
 use Rattle.chacha.proofs.stream.xor_run.Goals as goal
 
 pub returns-then-has_run_of_eight-clause-masked : goal.returns-then-has_run_of_eight-clause-masked
@@ -46,9 +46,8 @@ returns-then-counter-4-clause-masked g c =
 
 pub returns-then-counter-5-clause-masked : goal.returns-then-counter-5-clause-masked
 returns-then-counter-5-clause-masked g c =
-    run_of_two c.args.key.now c.args.nonce.now c.args.offset c.xor_part-then-counter-5.result
-    c.two_blocks-blocks.result c.args.bytes.now c.as_flattened.result.now _
-    c.two_blocks-blocks.ensures c.as_flattened.ensures.value c.as_flattened.ensures.len
+    run_of_stream c.args.key.now c.args.nonce.now c.args.offset 128 c.xor_part-then-counter-5.result c.args.bytes.now
+    c.put_two_blocks.new.out _ c.put_two_blocks.auto.out (λ i l. c.put_two_blocks.ensures i (omega (arith, l, c.put_two_blocks.auto.out)))
     c.xor_part-then-counter-5.ensures.count c.xor_part-then-counter-5.ensures.xored
 
 pub returns-clause-masked : goal.returns-clause-masked

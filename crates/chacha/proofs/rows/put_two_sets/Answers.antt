@@ -1,0 +1,39 @@
+use Rattle.std.proofs.Common.{◌≡◌, ℕ, ◌+◌, ◌*◌, ◌∙◌, refl, ap, arith, add-one, length}
+use Rattle.chacha.specs.Block.{column_round, diagonal_round, double_rounds}
+use Rattle.chacha.proofs.ByRows.{blocks_put, stream_joined}
+use Rattle.chacha.proofs.rows.put_two_sets.Goals as goal
+
+pub rounds-init : goal.rounds-init
+unfolding double_rounds
+rounds-init g c = (λ n l. refl, λ n l. refl)
+
+pub rounds-preserved : goal.rounds-preserved
+unfolding double_rounds
+rounds-preserved g c = (
+  λ n l. rw add-one (c.diagonal_round.ensures n l
+      ∙ ap diagonal_round (c.column_round.ensures n l ∙ ap column_round (c.rounds.invariant.0 n l))),
+  λ n l. rw add-one (c.diagonal_round-in-rounds.ensures n l
+      ∙ ap diagonal_round (c.column_round-in-rounds.ensures n l ∙ ap column_round (c.rounds.invariant.1 n l))),
+)
+
+pub returns : goal.returns
+returns g c =
+    let key = c.args.key.now in
+    let nonce = c.args.nonce.now in
+    let n : ℕ = c.args.counter in
+    let k : ℕ = g.R.Rows.COUNT in
+    let state = g.R.Rows.state in
+    let cut = c.split_at_mut-front.ensures in
+    let end : c.rounds._round ≡ 10 = omega (arith, c.rounds-test.false, c.rounds.auto._round-end) in
+    let long : length c.put_sums.new.out ≡ 64 * k = omega (arith, c.requires.size, cut.front_len, c.put_sums.auto.out) in
+    let next : ℕ = n + c.COUNT.result in
+    stream_joined key nonce n k next _ _ _ (omega (arith, c.COUNT.ensures)) refl long
+    (blocks_put key nonce n k c.put_sums.new.out (state c.starts_at-start_x.result) (state c.rounds.x) long
+    c.starts_at-start_x.ensures
+    (λ m l. c.rounds.invariant.0 m l ∙ ap (λ i. double_rounds i (state c.starts_at-start_x.result m)) end)
+    c.put_sums.ensures)
+    (blocks_put key nonce next k c.put_sums-2.new.out (state c.starts_at-start_y.result) (state c.rounds.y)
+    (omega (arith, c.requires.size, cut.back_len, c.put_sums-2.auto.out))
+    c.starts_at-start_y.ensures
+    (λ m l. c.rounds.invariant.1 m l ∙ ap (λ i. double_rounds i (state c.starts_at-start_y.result m)) end)
+    c.put_sums-2.ensures)

@@ -1,0 +1,8 @@
+use Rattle.std.proofs.Common.{◌≡◌, ℕ, ◌<◌}
+use Rattle.chacha.specs.Block.{double_rounds}
+use Rattle.chacha.proofs.rows.put_two_sets.Given as goal
+
+abbrev pub invariant-rounds : goal.invariant-rounds
+invariant-rounds g l =
+    ((n : ℕ) → n < g.R.Rows.COUNT → g.R.Rows.state l.x n ≡ double_rounds l._round (g.R.Rows.state l.initial.x n))
+    × ((n : ℕ) → n < g.R.Rows.COUNT → g.R.Rows.state l.y n ≡ double_rounds l._round (g.R.Rows.state l.initial.y n))
