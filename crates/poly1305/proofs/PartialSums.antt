@@ -1,6 +1,6 @@
 -- A sum to which each step adds one block.
-use Rattle.std.proofs.Common.{◌≡◌, ℕ, ◌+◌, ◌*◌, ◌/◌, ◌%◌, ◌^◌, ◌<◌, List, [], ◌++◌, length, take, drop}
-use Rattle.std.proofs.Common.{refl, sym, ap, ap₂, ◌∙◌, arith}
+use Rattle.std.proofs.Common.{◌≡◌, ℕ, ◌+◌, ◌*◌, ◌/◌, ◌%◌, ◌^◌, List, [], ◌++◌, length, take, drop}
+use Rattle.std.proofs.Common.{sym, ap, ap₂, ◌∙◌, arith}
 use Rattle.std.proofs.Math.Seq.{drop-append_seam}
 use Rattle.std.proofs.lemmas.List.{append_assoc, append-nil, length-append, length-take-le, take-append-drop, take_all}
 use Rattle.std.specs.Int.{w128, from_le_bytes}
@@ -62,13 +62,11 @@ stepped factor t u k m left rest block w h f eb er size ew step =
 pub taken_holds : {M : Type 0} (factor : M → ℕ) (t : PartialSum M) (c : PolySum M) (k m : List ℕ)
     → PartialSumHolds factor t [] k m
     → factor c.multiplier ≡ r_of k → c.addend ≡ s_of k
-    → pair c.sum.low c.sum.high ≡ pair t.sum.low t.sum.high % prime
-    → pair c.sum.low c.sum.high < prime
+    → pair c.sum.low c.sum.high ≡ pair t.sum.low t.sum.high
     → PolySumHolds factor c k m
-taken_holds factor t c k m h f a s below =
+taken_holds factor t c k m h f a s =
     let same : h.front ≡ m = sym (h.text_is ∙ append-nil h.front) in record {
       factor_is = f;
       addend_is = a;
-      sum_is = s ∙ h.sum_is ∙ ap (λ x. block_sum (r_of k) x (length x / 16) % prime) same;
-      sum_below_prime = below;
+      sum_is = ap (λ (x : ℕ). x % prime) s ∙ h.sum_is ∙ ap (λ x. block_sum (r_of k) x (length x / 16) % prime) same;
     }

@@ -120,7 +120,7 @@ clamped x =
 pub holds_whole : {M : Type 0} (factor : M → ℕ) (c : PolySum M) (k m : List ℕ)
     → PolySumHolds factor c k (take (length m / 16 * 16) m)
     → length (drop (length m / 16 * 16) m) ≡ 0
-    → pair c.sum.low c.sum.high ≡ block_sum (r_of k) m (block_count m) % prime
+    → pair c.sum.low c.sum.high % prime ≡ block_sum (r_of k) m (block_count m) % prime
 holds_whole factor c k m h e =
     let none : length m ≡ length m / 16 * 16 = omega (arith, e, length-drop (length m / 16 * 16) m) in
     let q : block_count m ≡ length m / 16 = omega (arith, none) in
@@ -149,9 +149,8 @@ holds_partial factor c k m start last v h some el es ev =
     ap (λ (x : List ℕ). block_sum (r_of k) x q) (sym split) ∙ block_sum-append (r_of k) (take (q * 16) m)
     (drop (q * 16) m) q (omega arith) in
     let before : s % prime ≡ block_sum (r_of k) m q % prime =
-    ap (λ (x : ℕ). x % prime) (h.sum_is
-    ∙ ap (λ (x : ℕ). block_sum (r_of k) (take (q * 16) m) x % prime) lq)
-    ∙ mod-mod (block_sum (r_of k) (take (q * 16) m) q) prime ∙ ap (λ (x : ℕ). x % prime) (sym same) in
+    h.sum_is ∙ ap (λ (x : ℕ). block_sum (r_of k) (take (q * 16) m) x % prime) lq
+    ∙ ap (λ (x : ℕ). x % prime) (sym same) in
     let sums : start + last + 0 * 2 ^ 128 ≡ s + last = omega arith in
     block_taken (r_of k) m q s last v before number
     (ev ∙ ap (λ (x : ℕ). x * factor c.multiplier % prime) sums

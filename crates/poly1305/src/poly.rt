@@ -1,23 +1,25 @@
 //! The one-time authenticator Poly1305 over a text that comes in pieces (RFC 8439, 2.5).
 
 ghost use Rattle.std.specs.Prelude.{◌≡◌, ℕ, ◌<◌, ◌*◌, ◌/◌, ◌%◌, ◌++◌, List, [], length, drop};
-ghost use Rattle.poly1305.specs.Poly1305.{block_number};
+ghost use Rattle.poly1305.specs.Poly1305.{prime, block_number};
+ghost use Rattle.poly1305.specs.Code.Residue.{pair};
 
 use crate::Multiplier;
 use crate::partial_sum::PartialSum;
-use crate::residue::{Residue, Sum};
+use crate::residue::Sum;
 use crate::side_by_side::{TWO_SUMS_FROM, add_halves, far_factor};
 use octets::{Absorb, Order, Pieces, Stream, Tag, le_bytes};
 
 // The bits of r that clamping does not clear (RFC 8439, 2.5).
 const R_MASK: u128 = 0x0ffffffc0ffffffc0ffffffc0fffffff;
 
-// The sum over whole blocks, with both numbers of the key: the multiplier by r, and s.
+// The sum over whole blocks, with both numbers of the key: the multiplier by r, and s. Only `tag` and `sum` need the sum completely
+// reduced, so until then it is partly reduced.
 #[derive(Drop)]
 struct PolySum<M> {
     multiplier: M,
     addend: u128,
-    sum: Residue,
+    sum: Sum,
 }
 
 impl<M: Multiplier> Absorb for PolySum<M> {
@@ -38,11 +40,11 @@ impl<M: Multiplier> Absorb for PolySum<M> {
     fn absorb_beside<S: Stream>(&mut self, order: Order, stream: &mut S, bytes: &mut [u8]) {
         let mut partial = PartialSum {
             multiplier: &self.multiplier,
-            sum: self.sum.sum(),
+            sum: self.sum,
         };
         stream.apply_beside(order, bytes, &mut partial);
         let PartialSum { sum, .. } = partial;
-        self.sum = sum.residue();
+        self.sum = sum;
     }
 }
 
@@ -57,12 +59,11 @@ impl<M: Multiplier> PolySum<M> {
             → PolySumHolds M.factor self.new k (m ++ blocks.now) }
     {
         let (whole, _) = blocks.as_chunks::<16>();
-        // The sum is partly reduced at each block, and completely at the end.
-        let mut sum = self.sum.sum();
+        let mut sum = self.sum;
         'taken: for block in whole {
             sum = self.multiplier.step(sum, u128::from_le_bytes(*block), 1);
         }
-        self.sum = sum.residue();
+        self.sum = sum;
     }
 
     // Adds the whole blocks of two halves of equal length to the sum.
@@ -75,8 +76,7 @@ impl<M: Multiplier> PolySum<M> {
             → PolySumHolds M.factor self.new k (m ++ (front.now ++ back.now)) }
     {
         let far = far_factor(&self.multiplier, front.len() / 16);
-        let sum = add_halves(&self.multiplier, self.sum.sum(), far, front, back);
-        self.sum = sum.residue();
+        self.sum = add_halves(&self.multiplier, self.sum, far, front, back);
     }
 }
 
@@ -118,7 +118,7 @@ impl<M: Multiplier> PolyBy<M> {
             pieces: Pieces::new(PolySum {
                 multiplier: M::new(u128::from_le_bytes(first) & R_MASK),
                 addend: u128::from_le_bytes(second),
-                sum: Residue::zero(),
+                sum: Sum::of_word(0),
             }),
         }
     }
@@ -141,7 +141,7 @@ impl<M: Multiplier> PolyBy<M> {
         let core = PolySum {
             multiplier: M::new(u128::from_le_bytes(first) & R_MASK),
             addend: u128::from_le_bytes(second),
-            sum: sum.residue(),
+            sum,
         };
         PolyBy {
             pieces: Pieces::resumed(core, rest),
@@ -150,9 +150,10 @@ impl<M: Multiplier> PolyBy<M> {
 
     /// Returns the sum over the whole blocks of the text, as `low` and `high`: it is `low` plus 2^128 times `high`.
     pub fn sum(&self) -> (u128, u64)
-        ensures { (k m : List ℕ) → HoldsBy M.factor self.now k m → IsSum k m result.0 result.1 }
+        ensures value { (k m : List ℕ) → HoldsBy M.factor self.now k m → IsSum k m result.0 result.1 }
+        ensures below { pair result.0 result.1 < prime }
     {
-        let sum = self.pieces.core().sum;
+        let sum = self.pieces.core().sum.residue();
         (sum.low, sum.high)
     }
 
@@ -209,9 +210,10 @@ impl<M: Multiplier> PolyBy<M> {
         let mut sum = core.sum;
         if rest.len() > 0 {
             let last = short_block_number(rest);
-            sum = core.multiplier.step(sum.sum(), last, 0).residue();
+            sum = core.multiplier.step(sum, last, 0);
         }
-        Tag::new(le_bytes(sum.low.wrapping_add(core.addend)))
+        let total = sum.residue();
+        Tag::new(le_bytes(total.low.wrapping_add(core.addend)))
     }
 
     /// Returns the tag of the text (RFC 8439, 2.5). Consumes the state.

@@ -1,5 +1,5 @@
 -- The text that a state in pieces holds.
-use Rattle.std.specs.Prelude.{◌≡◌, ℕ, ◌+◌, ◌*◌, ◌/◌, ◌%◌, ◌^◌, ◌<◌, List, length, take}
+use Rattle.std.specs.Prelude.{◌≡◌, ℕ, ◌+◌, ◌*◌, ◌/◌, ◌%◌, ◌^◌, List, length, take}
 use Rattle.octets.specs.Code.Pieces.{HoldsPieces}
 use Rattle.poly1305.specs.Poly1305.{prime, block_sum, r_of, s_of}
 use Rattle.poly1305.specs.Code.Residue.{pair}
@@ -7,13 +7,12 @@ use Rattle.poly1305.specs.declared.poly.PolySum.{PolySum}
 use Rattle.poly1305.specs.declared.poly.PolyBy.{PolyBy}
 use Rattle.poly1305.specs.declared.word_mul.WordMul.{WordMul}
 
--- c has absorbed the whole blocks m under the key, and its sum is a pair of words below 2^130 - 5
+-- c has absorbed the whole blocks m under the key: its sum is theirs, modulo 2^130 - 5
 pub record PolySumHolds {M : Type 0} (factor : M → ℕ) (c : PolySum M) (key : List ℕ) (m : List ℕ) : Type 0
   where
     pub factor_is : factor c.multiplier ≡ r_of key
     pub addend_is : c.addend ≡ s_of key
-    pub sum_is : pair c.sum.low c.sum.high ≡ block_sum (r_of key) m (length m / 16) % prime
-    pub sum_below_prime : pair c.sum.low c.sum.high < prime
+    pub sum_is : pair c.sum.low c.sum.high % prime ≡ block_sum (r_of key) m (length m / 16) % prime
 
 -- the pair is the sum over the whole blocks of m
 abbrev pub IsSum : List ℕ → List ℕ → ℕ → ℕ → Type 0

@@ -1,8 +1,8 @@
-use Rattle.std.proofs.Common.{◌≡◌, ℕ, ◌∙◌, sym, ap, arith, length, take, drop, bit_and}
+use Rattle.std.proofs.Common.{◌≡◌, ℕ, ◌%◌, ◌∙◌, sym, ap, arith, length, take, drop, bit_and}
 use Rattle.std.proofs.lemmas.List.{take_all, length-drop}
 use Rattle.octets.specs.Bytes.{le, sum_below}
 use Rattle.octets.proofs.Numbers.{le_word}
-use Rattle.poly1305.specs.Poly1305.{block_sum}
+use Rattle.poly1305.specs.Poly1305.{prime, block_sum}
 use Rattle.poly1305.proofs.Texts.{clamped}
 use Rattle.poly1305.proofs.poly.PolyBy.new.Goals as goal
 
@@ -23,6 +23,5 @@ returns g c =
       factor_is = c.new.ensures ∙ ap (λ (x : ℕ). bit_and x 0x0ffffffc0ffffffc0ffffffc0fffffff)
           (c.from_le_bytes.ensures ∙ sym (le_word c.copy_from_slice.new.self n1) ∙ ap le first);
       addend_is = c.from_le_bytes-2.ensures ∙ sym (le_word c.copy_from_slice-2.new.self n2) ∙ ap le second;
-      sum_is = c.zero.ensures;
-      sum_below_prime = c.zero.result.below;
+      sum_is = ap (λ (x : ℕ). x % prime) c.of_word.ensures;
     })

@@ -21,6 +21,5 @@ returns g c = λ m sum rest.
       factor_is = c.new.ensures ∙ ap (λ (x : ℕ). bit_and x 0x0ffffffc0ffffffc0ffffffc0fffffff)
           (c.from_le_bytes.ensures ∙ sym (le_word c.copy_from_slice.new.self n1) ∙ ap le first);
       addend_is = c.from_le_bytes-2.ensures ∙ sym (le_word c.copy_from_slice-2.new.self n2) ∙ ap le second;
-      sum_is = c.residue.ensures ∙ read_sum c.args.low c.args.high _ sum;
-      sum_below_prime = c.residue.result.below;
+      sum_is = read_sum c.args.low c.args.high _ sum;
     }) rest

@@ -1,5 +1,4 @@
 use Rattle.std.proofs.Common.{◌≡◌, ℕ, ◌+◌, ◌*◌, ◌/◌, ◌%◌, ◌≤◌, ◌∙◌, ap, sym, arith, List, ◌++◌, length}
-use Rattle.std.proofs.Math.Nat.{mod-mod}
 use Rattle.std.proofs.lemmas.List.{length-append}
 use Rattle.poly1305.specs.Poly1305.{prime, block_sum, r_of}
 use Rattle.poly1305.specs.Code.Residue.{pair}
@@ -12,8 +11,7 @@ taken-init g c = λ k m whole held.
     let e : q + 0 ≡ q = omega arith in
     let before : block_sum (r_of k) (m ++ c.args.blocks.now) q ≡ block_sum (r_of k) m q =
     block_sum-append (r_of k) m c.args.blocks.now q (omega arith) in
-    ap (λ (x : ℕ). x % prime) (c.sum-sum.ensures ∙ held.sum_is) ∙ mod-mod (block_sum (r_of k) m q) prime
-    ∙ ap (λ (x : ℕ). x % prime) (sym before) ∙ ap (λ (x : ℕ). block_sum (r_of k) (m ++ c.args.blocks.now)
+    held.sum_is ∙ ap (λ (x : ℕ). x % prime) (sym before) ∙ ap (λ (x : ℕ). block_sum (r_of k) (m ++ c.args.blocks.now)
     x % prime) (sym e)
 
 pub taken-preserved : goal.taken-preserved
@@ -44,7 +42,6 @@ returns g c = λ k m whole held.
     record {
       factor_is = held.factor_is;
       addend_is = held.addend_is;
-      sum_is = c.residue-self.ensures ∙ c.taken.invariant k m whole held
+      sum_is = c.taken.invariant k m whole held
           ∙ ap (λ (y : ℕ). block_sum (r_of k) (m ++ x) y % prime) (sym n);
-      sum_below_prime = c.residue-self.result.below;
     }
