@@ -6,5 +6,5 @@ pub mod Lengths
 mod ByRows
 mod Halves
 mod Refusals
-mod BesideHash
+mod InterleavedRuns
 mod Applied

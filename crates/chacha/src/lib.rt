@@ -15,7 +15,7 @@
 //! ```
 #![tactic(auto)]
 
-mod beside;
+mod interleaved;
 mod lanes;
 mod plan;
 mod row_beside;

@@ -1,5 +1,5 @@
-//! Whole runs of blocks of ChaCha20 (RFC 8439, 2.4) beside a hash of the same text: a sealing hashes the bytes after they are
-//! masked, an opening before.
+//! Whole runs of blocks of ChaCha20 (RFC 8439, 2.4), interleaved with a hash of the same text: a sealing hashes the bytes after they
+//! are masked, an opening before.
 
 ghost use Rattle.std.specs.Prelude.{◌≡◌, ℕ, ◌+◌, ◌-◌, ◌/◌, ◌%◌, ◌^◌, ◌<◌, ◌≤◌, ◌++◌, [], List, length, take, drop};
 ghost use Rattle.octets.specs.Masked.{masked};
@@ -9,7 +9,7 @@ ghost use Rattle.chacha.specs.Stream.{key_stream_byte};
 use crate::lanes::{
     eight_counters, four_counters, next_blocks, set_starts, xor_eight_serialized, xor_serialized,
 };
-use octets::{Beside, BlockWork, Key32, Nonce, Work};
+use octets::{BlockWork, Interleaved, Key32, Nonce, Work};
 use std::simd::{u32x4, u32x8};
 
 // Blocks that are computed side by side, one in each lane: the states from which they start, or their words.
@@ -136,13 +136,13 @@ pub(crate) fn mask_then_hash<R: Run, W: BlockWork>(
     let mut done = begun;
     'runs: while bytes.len() - done >= size {
         let (before, after) = bytes.split_at_mut(done);
-        let mut beside = Beside {
+        let mut interleaved = Interleaved {
             hash: own,
             left: &before[taken..],
         };
-        let x = start.next(&mut beside);
-        own = beside.hash;
-        taken = done - beside.left.len();
+        let x = start.next(&mut interleaved);
+        own = interleaved.hash;
+        taken = done - interleaved.left.len();
         x.xor_serialized(&mut after[..size]);
         done += size;
     }
@@ -174,13 +174,13 @@ pub(crate) fn hash_then_mask<R: Run, W: BlockWork>(
     let mut start = R::starts_at(key, counter, nonce);
     let mut done = 0;
     'runs: while bytes.len() - done >= size {
-        let mut beside = Beside {
+        let mut interleaved = Interleaved {
             hash: own,
             left: &bytes[done..done + size],
         };
-        let x = start.next(&mut beside);
-        own = beside.hash;
-        own.take_all(beside.left);
+        let x = start.next(&mut interleaved);
+        own = interleaved.hash;
+        own.take_all(interleaved.left);
         x.xor_serialized(&mut bytes[done..done + size]);
         done += size;
     }

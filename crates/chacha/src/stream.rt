@@ -7,12 +7,12 @@ ghost use Rattle.octets.specs.Bytes.{xor_bytes};
 ghost use Rattle.octets.specs.Masked.{masked};
 ghost use Rattle.chacha.specs.Stream.{key_stream_byte};
 
-use crate::beside::{hash_beside, mask_beside};
+use crate::interleaved::{hash_interleaved, mask_interleaved};
 use crate::plan::{
     EIGHT_PAY, FIVE_PAY, FOUR_PAY, HALF_IN_PLACE, has_run_of_eight, has_run_of_four,
 };
 use crate::{lanes, row_beside, rows};
-use octets::{BlockWork, Fault, Idle, Key32, Nonce, Order, Stream, WIDE, Work, xor_into};
+use octets::{BlockWork, Fault, Idle, Key32, Nonce, Stream, WIDE, Work, xor_into};
 
 // The length in bytes of the key stream from counter 0 on: 2^32 blocks of 64 bytes.
 const END: u64 = 0x40_0000_0000;
@@ -78,7 +78,7 @@ impl ChaStream {
     /// `bytes`, each byte after it is masked.
     ///
     /// If a block past counter 2^32 - 1 would be needed, `bytes` stay as they are, and `hash` takes in their whole blocks.
-    pub fn apply_after<W: BlockWork>(&mut self, bytes: &mut [u8], begun: usize, hash: &mut W)
+    pub fn apply_and_hash<W: BlockWork>(&mut self, bytes: &mut [u8], begun: usize, hash: &mut W)
         requires { begun ≤ length bytes.old }
         ensures did { Did self.old self.new (drop begun bytes.old) (drop begun bytes.new) }
         ensures begun { take begun bytes.new ≡ take begun bytes.old }
@@ -89,12 +89,14 @@ impl ChaStream {
             hash.take_all(&bytes[..bytes.len() / 16 * 16]);
             return;
         }
-        mask_beside(&self.key, &self.nonce, self.offset, bytes, begun, hash);
+        mask_interleaved(&self.key, &self.nonce, self.offset, bytes, begun, hash);
         self.offset += (bytes.len() - begun) as u64;
     }
 
-    // XORs the next bytes of the key stream into `bytes`, while `hash` takes in their whole blocks, each byte before it is masked.
-    fn apply_to_hashed<W: BlockWork>(&mut self, bytes: &mut [u8], hash: &mut W)
+    /// XORs the next bytes of the key stream into `bytes`, while `hash` takes in their whole blocks, each byte before it is masked.
+    ///
+    /// If a block past counter 2^32 - 1 would be needed, `bytes` stay as they are, and `hash` takes in their whole blocks.
+    pub fn hash_and_apply<W: BlockWork>(&mut self, bytes: &mut [u8], hash: &mut W)
         ensures did { Did self.old self.new bytes.old bytes.new }
         ensures hashed { (k m : List ℕ) → W.comes_to hash.old [] k m
             → W.comes_to hash.new [] k (m ++ whole_blocks bytes.old) }
@@ -103,7 +105,7 @@ impl ChaStream {
             hash.take_all(&bytes[..bytes.len() / 16 * 16]);
             return;
         }
-        hash_beside(&self.key, &self.nonce, self.offset, bytes, hash);
+        hash_interleaved(&self.key, &self.nonce, self.offset, bytes, hash);
         self.offset += bytes.len() as u64;
     }
 }
@@ -115,13 +117,6 @@ impl Stream for ChaStream {
 
     fn apply_next(&mut self, bytes: &mut [u8]) {
         let _ = self.apply(bytes);
-    }
-
-    fn apply_beside<W: BlockWork>(&mut self, order: Order, bytes: &mut [u8], hash: &mut W) {
-        match order {
-            Order::MaskFirst => self.apply_after(bytes, 0, hash),
-            Order::HashFirst => self.apply_to_hashed(bytes, hash),
-        }
     }
 }
 

@@ -45,8 +45,8 @@ pub use script::{ScriptIntake, ScriptOutlet, Step};
 pub use std_io::{FromRead, ToWrite};
 pub use transfer::{fill, give_all};
 pub use vector_width::WIDE;
-pub use words::{be_bytes, be_pair, joined, le_bytes};
-pub use work::{Beside, BlockWork, Idle, Order, Stream, Work};
+pub use words::{be_bytes, be_pair, joined, le_bytes, padded};
+pub use work::{BlockWork, Idle, Interleaved, Stream, Work};
 
 /// Every polynomial has exactly one residue modulo a polynomial of degree at least 1.
 pub fn each_has_one_residue()

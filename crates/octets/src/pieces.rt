@@ -4,12 +4,9 @@
 ghost use Rattle.std.specs.Prelude.{◌≡◌, ℕ, ◌+◌, ◌*◌, ◌/◌, ◌%◌, ◌<◌, ◌++◌, ◌-◌, List, [], length, take, drop, replicate};
 
 use crate::words::{le_bytes, padded};
-use crate::work::{Order, Stream};
 
 /// A state that absorbs whole blocks of 16 bytes. It does not depend on how they are split into calls.
 pub trait Absorb {
-    ghost use Rattle.octets.specs.Ends.{whole_blocks, hashed_of};
-
     // The state has absorbed this text of whole blocks under this key.
     ghost absorbed: { Self → List ℕ → List ℕ → Type 0 };
 
@@ -18,26 +15,6 @@ pub trait Absorb {
         requires { length blocks.now % 16 ≡ 0 }
         ensures { (k m : List ℕ) → length m % 16 ≡ 0 → absorbed self.old k m
             → absorbed self.new k (m ++ blocks.now) };
-
-    /// XORs the next bytes of `stream` into `bytes`, of any length, and absorbs their whole blocks, as they come or as they
-    /// leave. By default one is done after the other.
-    fn absorb_beside<S: Stream>(&mut self, order: Order, stream: &mut S, bytes: &mut [u8])
-        ensures absorbed { (k m : List ℕ) → length m % 16 ≡ 0 → absorbed self.old k m
-            → absorbed self.new k (m ++ whole_blocks (hashed_of order bytes.old bytes.new)) }
-        ensures did { S.did stream.old stream.new bytes.old bytes.new }
-    {
-        let whole = bytes.len() / 16 * 16;
-        match order {
-            Order::MaskFirst => {
-                stream.apply_next(bytes);
-                self.absorb(&bytes[..whole]);
-            }
-            Order::HashFirst => {
-                self.absorb(&bytes[..whole]);
-                stream.apply_next(bytes);
-            }
-        }
-    }
 }
 
 // The last `count` of 16 bytes, followed by zeros. The bytes are shifted within a word: if they were copied in parts, a read of
@@ -55,7 +32,8 @@ fn last_bytes(bytes: &[u8], count: usize) -> [u8; 16]
 /// after them, padded with zeros. Whole blocks are passed on many at a time, and only the two ends of a piece are copied.
 #[derive(Drop)]
 pub struct Pieces<A> {
-    core: A,
+    /// The state that absorbed the whole blocks.
+    pub core: A,
     buffer: [u8; 16],
     used: usize,
     ghost in_range: { used < 16 },
@@ -63,7 +41,6 @@ pub struct Pieces<A> {
 
 impl<A: Absorb> Pieces<A> {
     ghost use Rattle.octets.specs.Bytes.{pad16};
-    ghost use Rattle.octets.specs.Ends.{hashed_of};
     ghost use Rattle.octets.specs.Code.Pieces.{HoldsPieces};
 
     /// Makes a state that holds the empty text. `core` has absorbed nothing yet.
@@ -167,46 +144,6 @@ impl<A: Absorb> Pieces<A> {
             rest = &piece[room..];
         }
         self.update_whole(rest);
-    }
-
-    // Adds bytes while the buffer is empty, as they come or as they leave, and XORs the next bytes of `stream` into them.
-    fn update_whole_beside<S: Stream>(&mut self, order: Order, stream: &mut S, bytes: &mut [u8])
-        requires { self.old.used ≡ 0 }
-        ensures holds { (k m : List ℕ) → HoldsPieces A.absorbed self.old k m
-            → HoldsPieces A.absorbed self.new k (m ++ hashed_of order bytes.old bytes.new) }
-        ensures did { S.did stream.old stream.new bytes.old bytes.new }
-    {
-        let whole = bytes.len() / 16 * 16;
-        let came = padded(&bytes[whole..]);
-        self.core.absorb_beside(order, stream, bytes);
-        self.buffer = match order {
-            Order::MaskFirst => padded(&bytes[whole..]),
-            Order::HashFirst => came,
-        };
-        self.used = bytes.len() - whole;
-    }
-
-    /// Adds `bytes` to the end of the text, as they come or as they leave, and XORs the next bytes of `stream` into them. Both
-    /// run beside each other only if the text so far consists of whole blocks.
-    pub fn update_beside<S: Stream>(&mut self, order: Order, stream: &mut S, bytes: &mut [u8])
-        ensures holds { (k m : List ℕ) → HoldsPieces A.absorbed self.old k m
-            → HoldsPieces A.absorbed self.new k (m ++ hashed_of order bytes.old bytes.new) }
-        ensures did { S.did stream.old stream.new bytes.old bytes.new }
-    {
-        if self.used == 0 {
-            self.update_whole_beside(order, stream, bytes);
-            return;
-        }
-        match order {
-            Order::MaskFirst => {
-                stream.apply_next(bytes);
-                self.update(bytes);
-            }
-            Order::HashFirst => {
-                self.update(bytes);
-                stream.apply_next(bytes);
-            }
-        }
     }
 
     /// Adds the fewest zero bytes that make the length of the text a multiple of 16: none if it already is.

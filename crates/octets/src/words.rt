@@ -91,9 +91,10 @@ fn number_of_seven(bytes: &[u8]) -> u64
     }
 }
 
-// Fewer than 16 bytes, padded with zeros to 16. They are read eight and four at a time, and written at once.
+/// Returns fewer than 16 bytes, padded with zeros to 16.
+// They are read eight and four at a time, and written at once.
 #[inline(always)]
-pub(crate) fn padded(bytes: &[u8]) -> [u8; 16]
+pub fn padded(bytes: &[u8]) -> [u8; 16]
     requires { length bytes.now < 16 }
     ensures { result ≡ bytes.now ++ replicate (16 - length bytes.now) 0 }
 {

@@ -1,4 +1,4 @@
-//! Work in steps, and the streams that do these steps while they mask bytes. This is how a hash runs beside a cipher.
+//! Work in steps, and the streams that mask bytes. A hash whose steps a stream does in its own loop is interleaved with it.
 
 ghost use Rattle.std.specs.Prelude.{◌≡◌, ⊤, ℕ, ◌*◌, ◌/◌, ◌%◌, ◌<◌, ◌≤◌, List, [], ◌++◌, length};
 ghost use Rattle.octets.specs.Ends.{IsEnd};
@@ -72,12 +72,12 @@ pub trait BlockWork: Copy {
 
 /// A hash with the bytes that it takes in next: work for other code.
 #[derive(Clone, Copy)]
-pub struct Beside<'t, W> {
+pub struct Interleaved<'t, W> {
     pub hash: W,
     pub left: &'t [u8],
 }
 
-impl<'t, W: BlockWork> Work for Beside<'t, W> {
+impl<'t, W: BlockWork> Work for Interleaved<'t, W> {
     ghost reaches = { λ a b. IsEnd b.left.now a.left.now
         × ((k m : List ℕ) → W.comes_to a.hash a.left.now k m → W.comes_to b.hash b.left.now k m) };
 
@@ -87,43 +87,12 @@ impl<'t, W: BlockWork> Work for Beside<'t, W> {
     }
 }
 
-/// Which of two comes first: with the mask first, the masked bytes are hashed; with the hash first, the bytes as they come.
-#[derive(Clone, Copy)]
-pub enum Order {
-    /// The bytes are hashed as they leave: a sealing.
-    MaskFirst,
-    /// The bytes are hashed as they come: an opening.
-    HashFirst,
-}
-
-/// A stream of bytes that is XORed into pieces of any length, and may do the steps of a hash meanwhile.
+/// A stream of bytes that is XORed into pieces of any length.
 pub trait Stream {
-    ghost use Rattle.octets.specs.Ends.{whole_blocks, hashed_of};
-
     // The effect of a call, as a relation of the stream before and after it and the bytes before and after it.
     ghost did: { Self → Self → List ℕ → List ℕ → Type 0 };
 
     /// XORs the next bytes of the stream into `bytes`.
     fn apply_next(&mut self, bytes: &mut [u8])
         ensures { did self.old self.new bytes.old bytes.new };
-
-    /// XORs the next bytes of the stream into `bytes`, while `hash` takes in their whole blocks, as they come or as they leave.
-    /// By default one is done after the other.
-    fn apply_beside<W: BlockWork>(&mut self, order: Order, bytes: &mut [u8], hash: &mut W)
-        ensures did { did self.old self.new bytes.old bytes.new }
-        ensures hashed { (k m : List ℕ) → W.comes_to hash.old [] k m
-            → W.comes_to hash.new [] k (m ++ whole_blocks (hashed_of order bytes.old bytes.new)) }
-    {
-        let whole = bytes.len() / 16 * 16;
-        match order {
-            Order::MaskFirst => {
-                self.apply_next(bytes);
-                hash.take_all(&bytes[..whole]);
-            }
-            Order::HashFirst => {
-                hash.take_all(&bytes[..whole]);
-                self.apply_next(bytes);
-            }
-        }
-    }
 }

@@ -28,6 +28,7 @@ ghost use Rattle.poly1305.specs.Poly1305.{prime};
 ghost use Rattle.poly1305.specs.Code.Residue.{pair, IsClamped};
 
 pub use nibble_mul::NibbleMul;
+pub use partial_sum::PartialSum;
 pub use poly::PolyBy;
 pub use residue::Sum;
 pub use word_mul::WordMul;

@@ -1,4 +1,4 @@
-//! A sum of Poly1305 over whole blocks (RFC 8439, 2.5). A stream adds one block to it in each step, beside its own work.
+//! A sum of Poly1305 over whole blocks (RFC 8439, 2.5). A stream adds one block to it in each step, interleaved with its own work.
 
 ghost use Rattle.std.specs.Prelude.{◌≡◌, ⊤};
 
@@ -7,10 +7,11 @@ use crate::residue::Sum;
 use octets::BlockWork;
 use std::alloc::AllocError;
 
-// The sum over the blocks so far.
-pub(crate) struct PartialSum<'a, M> {
+/// The sum over the blocks so far.
+pub struct PartialSum<'a, M> {
     pub(crate) multiplier: &'a M,
-    pub(crate) sum: Sum,
+    /// Partly reduced.
+    pub sum: Sum,
 }
 
 impl<'a, M> Clone for PartialSum<'a, M> {

@@ -8,7 +8,7 @@ use crate::Multiplier;
 use crate::partial_sum::PartialSum;
 use crate::residue::Sum;
 use crate::side_by_side::{TWO_SUMS_FROM, add_halves, far_factor};
-use octets::{Absorb, Order, Pieces, Stream, Tag, le_bytes};
+use octets::{Absorb, Pieces, Tag, le_bytes};
 
 // The bits of r that clamping does not clear (RFC 8439, 2.5).
 const R_MASK: u128 = 0x0ffffffc0ffffffc0ffffffc0fffffff;
@@ -35,16 +35,6 @@ impl<M: Multiplier> Absorb for PolySum<M> {
         let half = blocks.len() / 32 * 16;
         self.absorb_halves(&blocks[..half], &blocks[half..2 * half]);
         self.absorb_blocks(&blocks[2 * half..]);
-    }
-
-    fn absorb_beside<S: Stream>(&mut self, order: Order, stream: &mut S, bytes: &mut [u8]) {
-        let mut partial = PartialSum {
-            multiplier: &self.multiplier,
-            sum: self.sum,
-        };
-        stream.apply_beside(order, bytes, &mut partial);
-        let PartialSum { sum, .. } = partial;
-        self.sum = sum;
     }
 }
 
@@ -99,9 +89,9 @@ pub struct PolyBy<M> {
 
 impl<M: Multiplier> PolyBy<M> {
     ghost use Rattle.octets.specs.Bytes.{pad16, IsBlock};
-    ghost use Rattle.octets.specs.Ends.{hashed_of};
     ghost use Rattle.poly1305.specs.Poly1305.{poly1305};
     ghost use Rattle.poly1305.specs.Code.States.{HoldsBy, IsSum};
+    ghost use Rattle.poly1305.specs.Code.PartialSums.{PartialSumHolds};
 
     /// Makes a state that holds the empty text, under a key of 32 bytes: r, then s (RFC 8439, 2.5).
     ///
@@ -174,14 +164,24 @@ impl<M: Multiplier> PolyBy<M> {
         self.pieces.update(piece);
     }
 
-    /// Adds `bytes`, of any length, to the text, as they come or as they leave, and XORs the next bytes of `stream` into them. Both
-    /// run beside each other only if the text so far consists of whole blocks.
-    pub fn update_beside<S: Stream>(&mut self, order: Order, stream: &mut S, bytes: &mut [u8])
-        ensures holds { (k m : List ℕ) → HoldsBy M.factor self.old k m
-            → HoldsBy M.factor self.new k (m ++ hashed_of order bytes.old bytes.new) }
-        ensures did { S.did stream.old stream.new bytes.old bytes.new }
+    /// Returns the sum over the text so far, to which other code adds whole blocks in steps. The text must consist of whole blocks:
+    /// [`PolyBy::rest`] is empty.
+    pub fn partial_sum(&self) -> PartialSum<'_, M>
+        ensures { (k m : List ℕ) → HoldsBy M.factor self.now k m → length m % 16 ≡ 0
+            → PartialSumHolds M.factor result [] k m }
     {
-        self.pieces.update_beside(order, stream, bytes);
+        PartialSum {
+            multiplier: &self.pieces.core.multiplier,
+            sum: self.pieces.core.sum,
+        }
+    }
+
+    /// Takes back the sum that [`PolyBy::partial_sum`] returned, to which whole blocks were added since: the text now ends with these.
+    pub fn set_sum(&mut self, sum: Sum)
+        ensures { (k m n : List ℕ) (partial : PartialSum M) → HoldsBy M.factor self.old k m → length m % 16 ≡ 0
+            → PartialSumHolds M.factor partial [] k n → sum ≡ partial.sum → HoldsBy M.factor self.new k n }
+    {
+        self.pieces.core.sum = sum;
     }
 
     /// Adds the fewest zero bytes that make the text's length a multiple of 16 bytes (RFC 8439, 2.8.1).

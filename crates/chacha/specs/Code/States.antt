@@ -29,7 +29,7 @@ pub record Refused (fault : Fault) (before after : ChaStream) (first made : ℕ)
     pub stream_unchanged : after ≡ before
     pub bytes_unchanged : now ≡ was
 
--- a call beside other work XORs in the next bytes of the key stream, if they all exist
+-- a call XORs in the next bytes of the key stream, if they all exist
 abbrev pub Did : ChaStream → ChaStream → List ℕ → List ℕ → Type 0
 Did before after was now =
     (key nonce : List ℕ) (first made : ℕ) → Holds before key nonce first made

@@ -4,7 +4,7 @@ use Rattle.octets.proofs.Ends.{all_left}
 use Rattle.octets.specs.Ends.{IsEnd}
 use Rattle.chacha.specs.Stream.{key_stream_byte}
 use Rattle.chacha.proofs.Masking.{no_run, blocks_more}
-use Rattle.chacha.proofs.BesideHash.{beside, length-begun, length-run, run_came}
+use Rattle.chacha.proofs.InterleavedRuns.{interleaved, length-begun, length-run, run_came}
 use Rattle.chacha.proofs.runs.hash_then_mask.Goals as goal
 
 pub runs-init : goal.runs-init
@@ -36,7 +36,7 @@ take_all-requires g c =
     let i = c.runs.invariant in
     let size : length bytes ≡ length c.args.bytes.now = ap length i.3
     ∙ length-begun (key_stream_byte c.args.key.now c.args.nonce.now c.args.counter) a c.args.bytes.now i.0 in
-    let end : IsEnd c.next-x.new.work.left.now piece = (c.next-x.ensures.work (beside c.runs.own piece) (all_left piece, λ k m h. h)).0 in
+    let end : IsEnd c.next-x.new.work.left.now piece = (c.next-x.ensures.work (interleaved c.runs.own piece) (all_left piece, λ k m h. h)).0 in
     omega (
       arith,
       end.shorter,
@@ -73,7 +73,7 @@ runs-preserved g c =
     let went : IsEnd c.next-x.new.work.left.now piece
     × ((k m : List ℕ) → g.W.BlockWork.comes_to c.runs.own piece k m
     → g.W.BlockWork.comes_to c.next-x.new.work.hash c.next-x.new.work.left.now k m) =
-    c.next-x.ensures.work (beside c.runs.own piece) (all_left piece, λ k m h. h) in (
+    c.next-x.ensures.work (interleaved c.runs.own piece) (all_left piece, λ k m h. h) in (
       room,
       omega (arith, i.1, e, g.met.R.Run.whole.1),
       subst (λ m. g.R.Run.starts c.next-x.new.self key m nonce) next (c.next-x.ensures.next key nonce (n + a / 64) i.2),

@@ -5,7 +5,7 @@ use Rattle.octets.proofs.Ends.{all_left}
 use Rattle.octets.specs.Ends.{IsEnd}
 use Rattle.octets.specs.Masked.{masked}
 use Rattle.chacha.specs.Stream.{key_stream_byte}
-use Rattle.chacha.proofs.BesideHash.{beside, carried, left_of, front_is, back_is, run_masked, run_ends, left_grows, none_masked}
+use Rattle.chacha.proofs.InterleavedRuns.{interleaved, carried, left_of, front_is, back_is, run_masked, run_ends, left_grows, none_masked}
 use Rattle.chacha.proofs.runs.mask_then_hash.Goals as goal
 
 pub runs-init : goal.runs-init
@@ -30,7 +30,7 @@ overflow_sub-taken g c =
     let before : List ℕ = c.split_at_mut-before.result.0.now in
     let t : ℕ = c.runs.taken in
     let left : List ℕ = take (length before - t) (drop t before) in
-    let end : IsEnd c.next-x.new.work.left.now left = (c.next-x.ensures.work (beside c.runs.own left) (all_left left, λ k m h. h)).0 in
+    let end : IsEnd c.next-x.new.work.left.now left = (c.next-x.ensures.work (interleaved c.runs.own left) (all_left left, λ k m h. h)).0 in
     omega (
       arith,
       end.shorter,
@@ -77,7 +77,7 @@ runs-preserved g c =
     let went : IsEnd c.next-x.new.work.left.now left
     × ((k m : List ℕ) → g.W.BlockWork.comes_to c.runs.own left k m
     → g.W.BlockWork.comes_to c.next-x.new.work.hash c.next-x.new.work.left.now k m) =
-    c.next-x.ensures.work (beside c.runs.own left) (all_left left, λ k m h. h) in
+    c.next-x.ensures.work (interleaved c.runs.own left) (all_left left, λ k m h. h) in
     let size : length left ≡ d - t = ap length tail ∙ length-drop t before ∙ ap (λ (x : ℕ). x - t) eb in
     let now : ℕ = d - length c.next-x.new.work.left.now in
     let ends : take (d + s) (before ++ (new ++ drop s after)) ≡ before ++ new =

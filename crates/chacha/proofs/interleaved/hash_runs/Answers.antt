@@ -1,7 +1,7 @@
 use Rattle.std.proofs.Common.{ℕ, ◌++◌, ◌∙◌, ap, take, drop}
 use Rattle.chacha.specs.Stream.{key_stream_byte}
 use Rattle.chacha.proofs.Masking.{whole_blocks, no_run}
-use Rattle.chacha.proofs.beside.hash_runs.Goals as goal
+use Rattle.chacha.proofs.interleaved.hash_runs.Goals as goal
 
 pub returns-then-has_run_of_eight-clause-masked : goal.returns-then-has_run_of_eight-clause-masked
 returns-then-has_run_of_eight-clause-masked g c =

@@ -1,8 +1,8 @@
 use Rattle.std.proofs.Common.{ℕ, ◌-◌, List, [], ◌++◌, ◌∙◌, ap, take, drop}
 use Rattle.chacha.specs.Stream.{key_stream_byte}
 use Rattle.chacha.proofs.Masking.{whole_blocks}
-use Rattle.chacha.proofs.BesideHash.{none_masked}
-use Rattle.chacha.proofs.beside.mask_runs.Goals as goal
+use Rattle.chacha.proofs.InterleavedRuns.{none_masked}
+use Rattle.chacha.proofs.interleaved.mask_runs.Goals as goal
 
 pub returns-then-has_run_of_eight-clause-masked : goal.returns-then-has_run_of_eight-clause-masked
 returns-then-has_run_of_eight-clause-masked g c =

@@ -1,7 +1,7 @@
 use Rattle.std.proofs.Common.{ℕ, List, [], ◌∙◌, ap, arith, refl, take, drop}
 use Rattle.std.proofs.lemmas.List.{length-drop, length-take-le, drop_at}
 use Rattle.chacha.proofs.Applied.{applied}
-use Rattle.chacha.proofs.stream.ChaStream.apply_after.Goals as goal
+use Rattle.chacha.proofs.stream.ChaStream.apply_and_hash.Goals as goal
 
 pub returns-then-bytes-begun-clause-hashed : goal.returns-then-bytes-begun-clause-hashed
 returns-then-bytes-begun-clause-hashed g c = λ k m h.
@@ -12,6 +12,6 @@ returns-clause-did g c = λ key nonce first made held within.
     let was : List ℕ = c.args.bytes.now in
     let b : ℕ = c.args.begun in
     applied c.args.self.now _ (drop b was) _ refl refl
-    (omega (arith, c.mask_beside.auto.bytes, length-drop b was, c.requires))
-    (ap (drop b) c.mask_beside.ensures.masked ∙ drop_at (take b was) _ b (length-take-le b was c.requires))
+    (omega (arith, c.mask_interleaved.auto.bytes, length-drop b was, c.requires))
+    (ap (drop b) c.mask_interleaved.ensures.masked ∙ drop_at (take b was) _ b (length-take-le b was c.requires))
     key nonce first made held within

@@ -2,8 +2,8 @@ use Rattle.std.proofs.Common.{◌≡◌, ℕ, ◌-◌, ◌*◌, ◌/◌, ◌%◌
 use Rattle.std.proofs.lemmas.List.{append_assoc, length-append, length-drop, length-take-le, take_all}
 use Rattle.octets.proofs.Ends.{all_left}
 use Rattle.octets.specs.Ends.{IsEnd, whole_blocks}
-use Rattle.chacha.proofs.BesideHash.{beside, carried, left_of, whole_split, whole_left}
-use Rattle.chacha.proofs.beside.mask_last.Goals as goal
+use Rattle.chacha.proofs.InterleavedRuns.{interleaved, carried, left_of, whole_split, whole_left}
+use Rattle.chacha.proofs.interleaved.mask_last.Goals as goal
 
 pub overflow_sub-left : goal.overflow_sub-left
 overflow_sub-left g c =
@@ -11,7 +11,7 @@ overflow_sub-left g c =
     let t : ℕ = c.args.taken in
     let left : List ℕ = take (length before - t) (drop t before) in
     let end : IsEnd c.xor_stream.new.work.left.now left =
-    (c.xor_stream.ensures.work (beside c.args.hash.now left) (all_left left, λ k m h. h)).0 in
+    (c.xor_stream.ensures.work (interleaved c.args.hash.now left) (all_left left, λ k m h. h)).0 in
     omega (
       arith,
       end.shorter,
@@ -26,7 +26,7 @@ take_all-requires g c =
     let t : ℕ = c.args.taken in
     let left : List ℕ = take (length before - t) (drop t before) in
     let end : IsEnd c.xor_stream.new.work.left.now left =
-    (c.xor_stream.ensures.work (beside c.args.hash.now left) (all_left left, λ k m h. h)).0 in
+    (c.xor_stream.ensures.work (interleaved c.args.hash.now left) (all_left left, λ k m h. h)).0 in
     let size : length left ≡ length before - t =
     length-take-le (length before - t) (drop t before) (omega (arith, length-drop t before)) in
     let eb : length before ≡ c.args.done = c.split_at_mut-before.ensures.front_len in
@@ -59,7 +59,7 @@ returns-clause-hashed g c = λ k m h.
     let went : IsEnd c.xor_stream.new.work.left.now left
     × ((k m : List ℕ) → g.W.BlockWork.comes_to c.args.hash.now left k m
     → g.W.BlockWork.comes_to c.xor_stream.new.work.hash c.xor_stream.new.work.left.now k m) =
-    c.xor_stream.ensures.work (beside c.args.hash.now left) (all_left left, λ k m h. h) in
+    c.xor_stream.ensures.work (interleaved c.args.hash.now left) (all_left left, λ k m h. h) in
     let halves = c.split_at_mut-before.ensures in
     let eb : length before ≡ c.args.done = halves.front_len in
     let now : ℕ = c.args.done - length c.xor_stream.new.work.left.now in

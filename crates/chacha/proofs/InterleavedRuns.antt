@@ -1,19 +1,19 @@
--- Runs of whole blocks that are masked beside a hash of the same text.
+-- Runs of whole blocks that are masked while a hash takes in the same text.
 use Rattle.std.proofs.Common.{◌≡◌, ℕ, ◌+◌, ◌-◌, ◌*◌, ◌/◌, ◌%◌, ◌≤◌, List, ◌++◌, length, take, drop}
 use Rattle.std.proofs.Common.{sym, ap, ap₂, subst, ◌∙◌, arith}
 use Rattle.std.proofs.Math.Seq.{take-add, take-append-add, drop-append-add}
 use Rattle.std.proofs.lemmas.List.{append_assoc, length-append, length-take-le, length-drop, take_at, drop_at, drop-drop}
 use Rattle.std.proofs.lemmas.List.{drop-append-le, take-append-drop}
 use Rattle.octets.specs.Ends.{IsEnd, whole_blocks}
-use Rattle.octets.specs.declared.work.Beside.{Beside}
+use Rattle.octets.specs.declared.work.Interleaved.{Interleaved}
 use Rattle.octets.specs.Masked.{masked}
 use Rattle.octets.proofs.Masks.{length-masked, masked-append}
 use Rattle.chacha.specs.Stream.{key_stream_byte}
 use Rattle.chacha.proofs.Masking.{later, no_run}
 
 -- a hash with the bytes that it takes in next, whatever their address
-abbrev pub beside : {W : Type 0} → W → List ℕ → Beside W
-beside hash left = record { hash = hash; left = record { ref_ptr = (0, 0); now = left } }
+abbrev pub interleaved : {W : Type 0} → W → List ℕ → Interleaved W
+interleaved hash left = record { hash = hash; left = record { ref_ptr = (0, 0); now = left } }
 
 -- what holds of two lists holds of equal lists
 pub carried : (P : List ℕ → List ℕ → Type 0) (a b c d : List ℕ) → a ≡ c → b ≡ d → P a b → P c d

@@ -2,8 +2,8 @@ use Rattle.std.proofs.Common.{◌≡◌, ℕ, ◌+◌, ◌-◌, ◌≤◌, List,
 use Rattle.std.proofs.lemmas.List.{append_assoc, length-drop, length-take-le}
 use Rattle.octets.specs.Masked.{masked}
 use Rattle.chacha.specs.Stream.{key_stream_byte}
-use Rattle.chacha.proofs.BesideHash.{front_is, back_is, all_masked}
-use Rattle.chacha.proofs.beside.mask_beside.Goals as goal
+use Rattle.chacha.proofs.InterleavedRuns.{front_is, back_is, all_masked}
+use Rattle.chacha.proofs.interleaved.mask_interleaved.Goals as goal
 
 pub returns-clause-masked : goal.returns-clause-masked
 returns-clause-masked g c =

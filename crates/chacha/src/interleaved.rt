@@ -1,5 +1,5 @@
-//! The key stream of ChaCha20 (RFC 8439, 2.4), XORed into a text beside a hash of the same text: first the whole runs of the text,
-//! and then the rest.
+//! The key stream of ChaCha20 (RFC 8439, 2.4), XORed into a text, interleaved with a hash of the same text: first the whole runs of
+//! the text, and then the rest.
 
 ghost use Rattle.std.specs.Prelude.{◌≡◌, ℕ, ◌+◌, ◌-◌, ◌*◌, ◌/◌, ◌%◌, ◌^◌, ◌<◌, ◌≤◌};
 ghost use Rattle.std.specs.Prelude.{◌++◌, [], List, length, take, drop};
@@ -10,7 +10,7 @@ ghost use Rattle.chacha.specs.Stream.{key_stream_byte};
 use crate::plan::{has_run_of_eight, has_run_of_four};
 use crate::runs::{hash_then_mask, mask_then_hash};
 use crate::stream::xor_stream;
-use octets::{Beside, BlockWork, Idle, Key32, Nonce};
+use octets::{BlockWork, Idle, Interleaved, Key32, Nonce};
 use std::simd::{u32x4, u32x8};
 
 // XORs whole runs of the key stream from an offset on into the bytes after the first `begun`, while `hash` takes in bytes that
@@ -80,13 +80,13 @@ fn mask_last<W: BlockWork>(
         → W.comes_to hash.new [] k (m ++ whole_blocks bytes.new) }
 {
     let (before, after) = bytes.split_at_mut(done);
-    let mut beside = Beside {
+    let mut interleaved = Interleaved {
         hash: *hash,
         left: &before[taken..],
     };
-    xor_stream(key, nonce, offset, after, &mut beside);
-    *hash = beside.hash;
-    let left = done - beside.left.len();
+    xor_stream(key, nonce, offset, after, &mut interleaved);
+    *hash = interleaved.hash;
+    let left = done - interleaved.left.len();
     let whole = bytes.len() / 16 * 16;
     hash.take_all(&bytes[left..whole]);
 }
@@ -115,7 +115,7 @@ fn mask_plainly<W: BlockWork>(
 
 // XORs the key stream from an offset on into the bytes after the first `begun`, while `hash` takes in the whole blocks of all
 // bytes, each byte after it is masked.
-pub(crate) fn mask_beside<W: BlockWork>(
+pub(crate) fn mask_interleaved<W: BlockWork>(
     key: &Key32,
     nonce: &Nonce,
     offset: u64,
@@ -185,7 +185,7 @@ fn hash_last<W: BlockWork>(key: &Key32, nonce: &Nonce, offset: u64, bytes: &mut 
 }
 
 // XORs the key stream from an offset on into the bytes, while `hash` takes in their whole blocks, each byte before it is masked.
-pub(crate) fn hash_beside<W: BlockWork>(
+pub(crate) fn hash_interleaved<W: BlockWork>(
     key: &Key32,
     nonce: &Nonce,
     offset: u64,

@@ -4,8 +4,8 @@ use Rattle.octets.specs.Ends.{whole_blocks}
 use Rattle.octets.specs.Masked.{masked}
 use Rattle.octets.proofs.Masks.{length-masked}
 use Rattle.chacha.specs.Stream.{key_stream_byte}
-use Rattle.chacha.proofs.BesideHash.{all_masked, whole_split}
-use Rattle.chacha.proofs.beside.hash_beside.Goals as goal
+use Rattle.chacha.proofs.InterleavedRuns.{all_masked, whole_split}
+use Rattle.chacha.proofs.interleaved.hash_interleaved.Goals as goal
 
 pub returns-clause-masked : goal.returns-clause-masked
 returns-clause-masked g c =

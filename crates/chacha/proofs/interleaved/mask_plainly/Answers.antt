@@ -1,5 +1,5 @@
 use Rattle.std.proofs.Common.{[]}
-use Rattle.chacha.proofs.beside.mask_plainly.Goals as goal
+use Rattle.chacha.proofs.interleaved.mask_plainly.Goals as goal
 
 pub returns-clause-hashed : goal.returns-clause-hashed
 returns-clause-hashed g c = λ k m h.
