@@ -9,6 +9,10 @@ use octets::WIDE;
 // into the registers, else four. With AVX2, eight in place of four are 1.5 times as fast.
 const RUN: usize = if WIDE { 512 } else { 256 };
 
+// With key stream for this many bytes made already, the first run is interleaved with enough steps of a hash. With AVX2 the four
+// blocks before a run have as many for the text.
+const READY: usize = if WIDE { 192 } else { 128 };
+
 /// Returns whether bytes begin with a run, in a build where a run is eight blocks. `skip` is their offset in the first block: a
 /// run begins with its first byte.
 #[inline(always)]
@@ -26,20 +30,24 @@ pub(crate) fn has_run_of_four(skip: usize, length: usize) -> bool
     !WIDE && skip == 0 && length >= 256
 }
 
-/// From this length on, with AVX2, the first half of a run of eight blocks is masked in place, and only the other half by way of a
-/// buffer.
-pub(crate) const HALF_IN_PLACE: usize = 256;
+/// The length in bytes of one block, which one set of rows makes in 311 cycles, with AVX2 in 296; two blocks take 437 and 341.
+pub(crate) const ONE_AT_MOST: usize = 64;
 
-/// With AVX2, more key stream than this is made eight blocks at once. They take hardly longer than four.
-pub(crate) const EIGHT_PAY: usize = 320;
+/// The length in bytes of two blocks. More key stream than this is made three blocks at once by rows in 555 cycles, with AVX2 four
+/// in two pairs in 429.
+pub(crate) const TWO_AT_MOST: usize = 128;
 
-/// More key stream than this is made five blocks at once: one by rows in the idle slots of four in lanes, which makes 700 to 832
-/// bytes 1.04 to 1.14 times as fast.
-pub(crate) const FIVE_PAY: usize = 256;
+/// The length in bytes of three blocks. More key stream than this is made, without AVX2, four blocks at once in lanes, in 655
+/// cycles.
+pub(crate) const THREE_AT_MOST: usize = 192;
 
-/// More key stream than this is made four blocks at once, in lanes. Up to this length there are two blocks by rows, which take no
-/// longer than one: up to 64 bytes 1.25 to 1.36 times as fast as block by block.
-pub(crate) const FOUR_PAY: usize = 128;
+/// The length in bytes of four blocks. More key stream than this is made, with AVX2, six blocks at once in three pairs, in 557
+/// cycles; without, five: one by rows in the idle slots of four in lanes.
+pub(crate) const FOUR_AT_MOST: usize = 256;
+
+/// The length in bytes of six blocks. More key stream than this is made, with AVX2, eight blocks at once in lanes, in 682 cycles. The
+/// first half is masked in place, and only the other half by way of a buffer.
+pub(crate) const SIX_AT_MOST: usize = 384;
 
 /// The length in bytes of the longest text that the blocks with the counters 1 to 7 mask. Up to this length an opening hashes the
 /// ciphertext and then decrypts it by blocks that are made already; in a longer one, both are interleaved.
@@ -93,8 +101,7 @@ impl BlocksAtOnce {
 
 /// Returns whether interleaving a hash with the mask of a text of `length` bytes takes less time than hashing after it. The key
 /// stream for the first `ready` bytes is made already. A run is interleaved with the hash of what is masked before it: if that is
-/// less than half a run, the first run has little to be interleaved with, and a second one has to follow. Sealing 1 KiB became
-/// 1.2 times as fast.
+/// little, the first run has little to be interleaved with, and a second one has to follow. Sealing 1 KiB became 1.2 times as fast.
 pub fn interleaving_pays(ready: usize, length: usize) -> bool {
-    length > ready && (ready >= RUN / 2 || length - ready > RUN)
+    length > ready && (ready >= READY || length - ready > RUN)
 }

@@ -10,7 +10,7 @@ ghost use Rattle.chacha.specs.Code.Rows.{four_from, read_by_rows, state_in, IsKe
 
 use crate::lanes::{bytes_of, bytes_of_eight, high_halves, low_halves, quarter_round, sum};
 use crate::state::initial_state;
-use octets::{Key32, Nonce, WIDE};
+use octets::{Idle, Key32, Nonce, WIDE, Work};
 use std::simd::{u32x4, u32x8};
 
 // The states of blocks, side by side in four rows.
@@ -242,50 +242,81 @@ impl Rows for [u32x8; 4] {
     ghost some = { two_some };
 }
 
-// Writes the blocks of one set from a counter on.
+// Writes the blocks of one set from a counter on, and does a step of other work after each round.
 #[inline(always)]
-fn put_set<R: Rows>(key: &Key32, counter: u32, nonce: &Nonce, out: &mut [u8])
+pub(crate) fn put_set<R: Rows, W: Work>(
+    key: &Key32,
+    counter: u32,
+    nonce: &Nonce,
+    out: &mut [u8],
+    work: &mut W,
+)
     requires counters { counter + R.COUNT ≤ 2 ^ 32 }
     requires size { length out.old ≡ 64 * R.COUNT }
-    ensures { IsKeyStream out.new key.now counter nonce.now }
+    ensures stream { IsKeyStream out.new key.now counter nonce.now }
+    ensures work { (w : W) → W.reaches w work.old → W.reaches w work.new }
 {
     let start = R::starts_at(key, counter, nonce);
     let mut x = start;
+    let mut own = *work;
     'rounds: for _round in 0..10u32 {
         x.column_round();
+        own.step(0);
         x.diagonal_round();
+        own.step(0);
     }
+    *work = own;
     x.put_sums(&start, out);
 }
 
-// Writes the blocks of two sets from a counter on, which are computed together.
+// Writes the blocks of two sets from a counter on, which are computed together, and does a step of other work after each
+// round.
 #[inline(always)]
-fn put_two_sets<R: Rows>(key: &Key32, counter: u32, nonce: &Nonce, out: &mut [u8])
+pub(crate) fn put_two_sets<R: Rows, W: Work>(
+    key: &Key32,
+    counter: u32,
+    nonce: &Nonce,
+    out: &mut [u8],
+    work: &mut W,
+)
     requires counters { counter + 2 * R.COUNT ≤ 2 ^ 32 }
     requires size { length out.old ≡ 2 * (64 * R.COUNT) }
-    ensures { IsKeyStream out.new key.now counter nonce.now }
+    ensures stream { IsKeyStream out.new key.now counter nonce.now }
+    ensures work { (w : W) → W.reaches w work.old → W.reaches w work.new }
 {
     let start_x = R::starts_at(key, counter, nonce);
     let start_y = R::starts_at(key, counter + R::COUNT, nonce);
     let mut x = start_x;
     let mut y = start_y;
+    let mut own = *work;
     'rounds: for _round in 0..10u32 {
         x.column_round();
         y.column_round();
+        own.step(0);
         x.diagonal_round();
         y.diagonal_round();
+        own.step(0);
     }
+    *work = own;
     let (front, back) = out.split_at_mut(out.len() / 2);
     x.put_sums(&start_x, front);
     y.put_sums(&start_y, back);
 }
 
-// Writes the blocks of three sets from a counter on, which are computed together.
+// Writes the blocks of three sets from a counter on, which are computed together, and does a step of other work after each
+// round.
 #[inline(always)]
-fn put_three_sets<R: Rows>(key: &Key32, counter: u32, nonce: &Nonce, out: &mut [u8])
+pub(crate) fn put_three_sets<R: Rows, W: Work>(
+    key: &Key32,
+    counter: u32,
+    nonce: &Nonce,
+    out: &mut [u8],
+    work: &mut W,
+)
     requires counters { counter + 3 * R.COUNT ≤ 2 ^ 32 }
     requires size { length out.old ≡ 3 * (64 * R.COUNT) }
-    ensures { IsKeyStream out.new key.now counter nonce.now }
+    ensures stream { IsKeyStream out.new key.now counter nonce.now }
+    ensures work { (w : W) → W.reaches w work.old → W.reaches w work.new }
 {
     let start_x = R::starts_at(key, counter, nonce);
     let start_y = R::starts_at(key, counter + R::COUNT, nonce);
@@ -293,14 +324,18 @@ fn put_three_sets<R: Rows>(key: &Key32, counter: u32, nonce: &Nonce, out: &mut [
     let mut x = start_x;
     let mut y = start_y;
     let mut z = start_z;
+    let mut own = *work;
     'rounds: for _round in 0..10u32 {
         x.column_round();
         y.column_round();
         z.column_round();
+        own.step(0);
         x.diagonal_round();
         y.diagonal_round();
         z.diagonal_round();
+        own.step(0);
     }
+    *work = own;
     let (front, rest) = out.split_at_mut(out.len() / 3);
     let (middle, back) = rest.split_at_mut(rest.len() / 2);
     x.put_sums(&start_x, front);
@@ -308,48 +343,76 @@ fn put_three_sets<R: Rows>(key: &Key32, counter: u32, nonce: &Nonce, out: &mut [
     z.put_sums(&start_z, back);
 }
 
-// Writes the two blocks from a counter on.
+// Writes the two blocks from a counter on, and does twenty steps of other work.
 #[inline(never)]
-pub(crate) fn put_two_blocks(key: &Key32, counter: u32, nonce: &Nonce, out: &mut [u8])
+pub(crate) fn put_two_blocks<W: Work>(
+    key: &Key32,
+    counter: u32,
+    nonce: &Nonce,
+    out: &mut [u8],
+    work: &mut W,
+)
     requires counters { counter + 2 ≤ 2 ^ 32 }
     requires size { length out.old ≡ 128 }
-    ensures { IsKeyStream out.new key.now counter nonce.now }
+    ensures stream { IsKeyStream out.new key.now counter nonce.now }
+    ensures work { (w : W) → W.reaches w work.old → W.reaches w work.new }
 {
     if WIDE {
-        put_set::<[u32x8; 4]>(key, counter, nonce, out);
+        put_set::<[u32x8; 4], W>(key, counter, nonce, out, work);
     } else {
-        put_two_sets::<[u32x4; 4]>(key, counter, nonce, out);
+        put_two_sets::<[u32x4; 4], W>(key, counter, nonce, out, work);
     }
 }
 
-// Writes the three blocks from a counter on.
+// Writes the three blocks from a counter on, and does twenty steps of other work.
 #[inline(never)]
-pub(crate) fn put_three_blocks(key: &Key32, counter: u32, nonce: &Nonce, out: &mut [u8])
+pub(crate) fn put_three_blocks<W: Work>(
+    key: &Key32,
+    counter: u32,
+    nonce: &Nonce,
+    out: &mut [u8],
+    work: &mut W,
+)
     requires counters { counter + 3 ≤ 2 ^ 32 }
     requires size { length out.old ≡ 192 }
-    ensures { IsKeyStream out.new key.now counter nonce.now }
+    ensures stream { IsKeyStream out.new key.now counter nonce.now }
+    ensures work { (w : W) → W.reaches w work.old → W.reaches w work.new }
 {
-    put_three_sets::<[u32x4; 4]>(key, counter, nonce, out);
+    put_three_sets::<[u32x4; 4], W>(key, counter, nonce, out, work);
 }
 
-// Writes the four blocks from a counter on, in two pairs.
+// Writes the four blocks from a counter on, in two pairs, and does twenty steps of other work.
 #[inline(never)]
-pub(crate) fn put_four_blocks(key: &Key32, counter: u32, nonce: &Nonce, out: &mut [u8])
+pub(crate) fn put_four_blocks<W: Work>(
+    key: &Key32,
+    counter: u32,
+    nonce: &Nonce,
+    out: &mut [u8],
+    work: &mut W,
+)
     requires counters { counter + 4 ≤ 2 ^ 32 }
     requires size { length out.old ≡ 256 }
-    ensures { IsKeyStream out.new key.now counter nonce.now }
+    ensures stream { IsKeyStream out.new key.now counter nonce.now }
+    ensures work { (w : W) → W.reaches w work.old → W.reaches w work.new }
 {
-    put_two_sets::<[u32x8; 4]>(key, counter, nonce, out);
+    put_two_sets::<[u32x8; 4], W>(key, counter, nonce, out, work);
 }
 
-// Writes the six blocks from a counter on, in three pairs.
+// Writes the six blocks from a counter on, in three pairs, and does twenty steps of other work.
 #[inline(never)]
-pub(crate) fn put_six_blocks(key: &Key32, counter: u32, nonce: &Nonce, out: &mut [u8])
+pub(crate) fn put_six_blocks<W: Work>(
+    key: &Key32,
+    counter: u32,
+    nonce: &Nonce,
+    out: &mut [u8],
+    work: &mut W,
+)
     requires counters { counter + 6 ≤ 2 ^ 32 }
     requires size { length out.old ≡ 384 }
-    ensures { IsKeyStream out.new key.now counter nonce.now }
+    ensures stream { IsKeyStream out.new key.now counter nonce.now }
+    ensures work { (w : W) → W.reaches w work.old → W.reaches w work.new }
 {
-    put_three_sets::<[u32x8; 4]>(key, counter, nonce, out);
+    put_three_sets::<[u32x8; 4], W>(key, counter, nonce, out, work);
 }
 
 // The block of a key, a counter and a nonce. It is a function of its own, since the proof knows of a result that it is bytes.
@@ -358,7 +421,7 @@ fn block_by_rows(key: &Key32, counter: u32, nonce: &Nonce) -> [u8; 64]
     ensures { result ≡ block key.now counter nonce.now }
 {
     let mut out = [0; 64];
-    put_set::<[u32x4; 4]>(key, counter, nonce, &mut out);
+    put_set::<[u32x4; 4], Idle>(key, counter, nonce, &mut out, &mut Idle::new());
     out
 }
 

@@ -3,8 +3,10 @@
 ghost use Rattle.std.specs.Prelude.{◌≡◌, ◌%◌, ◌<◌, ◌≤◌, ℕ, List, length, slice_index};
 ghost use Rattle.chacha.specs.Stream.{key_stream_byte};
 
-use crate::{lanes, row_beside, rows};
+use crate::rows::{put_set, put_three_sets, put_two_sets};
+use crate::{lanes, row_beside};
 use octets::{Idle, Key32, Nonce, WIDE};
+use std::simd::{u32x4, u32x8};
 
 /// The first blocks of a key stream, from counter 0 on (RFC 8439, 2.4).
 // A type for each number of blocks, so that a short text clears and copies no more bytes than it needs.
@@ -37,7 +39,11 @@ impl KeyStreamStart for TwoBlocks {
 
     fn make(key: &Key32, nonce: &Nonce) -> TwoBlocks {
         let mut start = TwoBlocks { bytes: [0; 128] };
-        rows::put_two_blocks(key, 0, nonce, &mut start.bytes);
+        if WIDE {
+            put_set::<[u32x8; 4], Idle>(key, 0, nonce, &mut start.bytes, &mut Idle::new());
+        } else {
+            put_two_sets::<[u32x4; 4], Idle>(key, 0, nonce, &mut start.bytes, &mut Idle::new());
+        }
         start
     }
 
@@ -57,7 +63,7 @@ impl KeyStreamStart for ThreeBlocks {
 
     fn make(key: &Key32, nonce: &Nonce) -> ThreeBlocks {
         let mut start = ThreeBlocks { bytes: [0; 192] };
-        rows::put_three_blocks(key, 0, nonce, &mut start.bytes);
+        put_three_sets::<[u32x4; 4], Idle>(key, 0, nonce, &mut start.bytes, &mut Idle::new());
         start
     }
 
@@ -78,7 +84,7 @@ impl KeyStreamStart for FourBlocks {
     fn make(key: &Key32, nonce: &Nonce) -> FourBlocks {
         let mut start = FourBlocks { bytes: [0; 256] };
         if WIDE {
-            rows::put_four_blocks(key, 0, nonce, &mut start.bytes);
+            put_two_sets::<[u32x8; 4], Idle>(key, 0, nonce, &mut start.bytes, &mut Idle::new());
         } else {
             lanes::xor_fours(key, 0, nonce, &mut start.bytes, &mut Idle::new());
         }
@@ -121,7 +127,7 @@ impl KeyStreamStart for SixBlocks {
 
     fn make(key: &Key32, nonce: &Nonce) -> SixBlocks {
         let mut start = SixBlocks { bytes: [0; 384] };
-        rows::put_six_blocks(key, 0, nonce, &mut start.bytes);
+        put_three_sets::<[u32x8; 4], Idle>(key, 0, nonce, &mut start.bytes, &mut Idle::new());
         start
     }
 

@@ -9,7 +9,8 @@ ghost use Rattle.chacha.specs.Stream.{key_stream_byte};
 
 use crate::interleaved::{hash_interleaved, mask_interleaved};
 use crate::plan::{
-    EIGHT_PAY, FIVE_PAY, FOUR_PAY, HALF_IN_PLACE, has_run_of_eight, has_run_of_four,
+    FOUR_AT_MOST, ONE_AT_MOST, SIX_AT_MOST, THREE_AT_MOST, TWO_AT_MOST, has_run_of_eight,
+    has_run_of_four,
 };
 use crate::{lanes, row_beside, rows};
 use octets::{BlockWork, Fault, Idle, Key32, Nonce, Stream, WIDE, Work, xor_into};
@@ -167,30 +168,45 @@ fn xor_run<W: Work>(
         lanes::xor_fours(key, counter, nonce, &mut bytes[..whole], work);
         return whole;
     }
-    if WIDE && skip == 0 && bytes.len() >= HALF_IN_PLACE && counter <= u32::MAX - 7 {
+    if WIDE && skip == 0 && bytes.len() > SIX_AT_MOST && counter <= u32::MAX - 7 {
         let mut stream = [0; 256];
         let (front, back) = bytes.split_at_mut(256);
         lanes::xor_eight(key, counter, nonce, front, &mut stream, work);
         return 256 + xor_part(&stream, 0, back);
     }
-    if WIDE && skip + bytes.len() > EIGHT_PAY && counter <= u32::MAX - 7 {
+    if WIDE && skip + bytes.len() > SIX_AT_MOST && counter <= u32::MAX - 7 {
         let mut stream = [0; 512];
         lanes::xor_eights(key, counter, nonce, &mut stream, work);
         return xor_part(&stream, skip, bytes);
     }
-    if skip + bytes.len() > FIVE_PAY && counter <= u32::MAX - 4 {
+    if WIDE && skip + bytes.len() > FOUR_AT_MOST && counter <= u32::MAX - 5 {
+        let mut stream = [0; 384];
+        rows::put_six_blocks(key, counter, nonce, &mut stream, work);
+        return xor_part(&stream, skip, bytes);
+    }
+    if WIDE && skip + bytes.len() > TWO_AT_MOST && counter <= u32::MAX - 3 {
+        let mut stream = [0; 256];
+        rows::put_four_blocks(key, counter, nonce, &mut stream, work);
+        return xor_part(&stream, skip, bytes);
+    }
+    if skip + bytes.len() > FOUR_AT_MOST && counter <= u32::MAX - 4 {
         let mut stream = [0; 320];
         row_beside::xor_five_blocks(key, counter, nonce, &mut stream, work);
         return xor_part(&stream, skip, bytes);
     }
-    if skip + bytes.len() > FOUR_PAY && counter <= u32::MAX - 3 {
+    if skip + bytes.len() > THREE_AT_MOST && counter <= u32::MAX - 3 {
         let mut stream = [0; 256];
         lanes::xor_fours(key, counter, nonce, &mut stream, work);
         return xor_part(&stream, skip, bytes);
     }
-    if counter <= u32::MAX - 1 {
+    if skip + bytes.len() > TWO_AT_MOST && counter <= u32::MAX - 2 {
+        let mut stream = [0; 192];
+        rows::put_three_blocks(key, counter, nonce, &mut stream, work);
+        return xor_part(&stream, skip, bytes);
+    }
+    if skip + bytes.len() > ONE_AT_MOST && counter <= u32::MAX - 1 {
         let mut stream = [0; 128];
-        rows::put_two_blocks(key, counter, nonce, &mut stream);
+        rows::put_two_blocks(key, counter, nonce, &mut stream, work);
         return xor_part(&stream, skip, bytes);
     }
     xor_part(&rows::block(key, counter, nonce), skip, bytes)

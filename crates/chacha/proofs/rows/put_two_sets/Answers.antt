@@ -5,7 +5,7 @@ use Rattle.chacha.proofs.rows.put_two_sets.Goals as goal
 
 pub rounds-init : goal.rounds-init
 unfolding double_rounds
-rounds-init g c = (λ n l. refl, λ n l. refl)
+rounds-init g c = (λ n l. refl, λ n l. refl, λ w h. h)
 
 pub rounds-preserved : goal.rounds-preserved
 unfolding double_rounds
@@ -14,10 +14,11 @@ rounds-preserved g c = (
       ∙ ap diagonal_round (c.column_round.ensures n l ∙ ap column_round (c.rounds.invariant.0 n l))),
   λ n l. rw add-one (c.diagonal_round-in-rounds.ensures n l
       ∙ ap diagonal_round (c.column_round-in-rounds.ensures n l ∙ ap column_round (c.rounds.invariant.1 n l))),
+  λ w h. c.step-in-rounds.ensures w (c.step.ensures w (c.rounds.invariant.2 w h)),
 )
 
-pub returns : goal.returns
-returns g c =
+pub returns-clause-stream : goal.returns-clause-stream
+returns-clause-stream g c =
     let key = c.args.key.now in
     let nonce = c.args.nonce.now in
     let n : ℕ = c.args.counter in
@@ -37,3 +38,6 @@ returns g c =
     c.starts_at-start_y.ensures
     (λ m l. c.rounds.invariant.1 m l ∙ ap (λ i. double_rounds i (state c.starts_at-start_y.result m)) end)
     c.put_sums-2.ensures)
+
+pub returns-clause-work : goal.returns-clause-work
+returns-clause-work g c = c.rounds.invariant.2

@@ -26,29 +26,44 @@ returns-then-counter-clause-masked g c =
 pub returns-then-counter-2-clause-masked : goal.returns-then-counter-2-clause-masked
 returns-then-counter-2-clause-masked g c =
     run_of_zeros c.args.key.now c.args.nonce.now c.args.offset 512 c.xor_part-then-counter-2.result c.args.bytes.now
-    c.xor_eights-then-counter-2.new.bytes _
-    c.xor_eights-then-counter-2.ensures.masked c.xor_eights-then-counter-2.auto.bytes
+    c.xor_eights-then-counter-2.new.bytes _ c.xor_eights-then-counter-2.ensures.masked c.xor_eights-then-counter-2.auto.bytes
     c.xor_part-then-counter-2.ensures.count c.xor_part-then-counter-2.ensures.xored
 
 pub returns-then-counter-3-clause-masked : goal.returns-then-counter-3-clause-masked
 returns-then-counter-3-clause-masked g c =
-    run_of_zeros c.args.key.now c.args.nonce.now c.args.offset 320 c.xor_part-then-counter-3.result
-    c.args.bytes.now c.xor_five_blocks.new.bytes _
-    c.xor_five_blocks.ensures.masked c.xor_five_blocks.auto.bytes c.xor_part-then-counter-3.ensures.count
-    c.xor_part-then-counter-3.ensures.xored
+    run_of_stream c.args.key.now c.args.nonce.now c.args.offset 384 c.xor_part-then-counter-3.result c.args.bytes.now
+    c.put_six_blocks.new.out _ c.put_six_blocks.auto.out (λ i l. c.put_six_blocks.ensures.stream i (omega (arith, l, c.put_six_blocks.auto.out)))
+    c.xor_part-then-counter-3.ensures.count c.xor_part-then-counter-3.ensures.xored
 
 pub returns-then-counter-4-clause-masked : goal.returns-then-counter-4-clause-masked
 returns-then-counter-4-clause-masked g c =
-    run_of_zeros c.args.key.now c.args.nonce.now c.args.offset 256 c.xor_part-then-counter-4.result
-    c.args.bytes.now c.xor_fours-then-counter-4.new.bytes _
-    c.xor_fours-then-counter-4.ensures.masked c.xor_fours-then-counter-4.auto.bytes c.xor_part-then-counter-4.ensures.count
-    c.xor_part-then-counter-4.ensures.xored
+    run_of_stream c.args.key.now c.args.nonce.now c.args.offset 256 c.xor_part-then-counter-4.result c.args.bytes.now
+    c.put_four_blocks.new.out _ c.put_four_blocks.auto.out (λ i l. c.put_four_blocks.ensures.stream i (omega (arith, l, c.put_four_blocks.auto.out)))
+    c.xor_part-then-counter-4.ensures.count c.xor_part-then-counter-4.ensures.xored
 
 pub returns-then-counter-5-clause-masked : goal.returns-then-counter-5-clause-masked
 returns-then-counter-5-clause-masked g c =
-    run_of_stream c.args.key.now c.args.nonce.now c.args.offset 128 c.xor_part-then-counter-5.result c.args.bytes.now
-    c.put_two_blocks.new.out _ c.put_two_blocks.auto.out (λ i l. c.put_two_blocks.ensures i (omega (arith, l, c.put_two_blocks.auto.out)))
+    run_of_zeros c.args.key.now c.args.nonce.now c.args.offset 320 c.xor_part-then-counter-5.result c.args.bytes.now
+    c.xor_five_blocks.new.bytes _ c.xor_five_blocks.ensures.masked c.xor_five_blocks.auto.bytes
     c.xor_part-then-counter-5.ensures.count c.xor_part-then-counter-5.ensures.xored
+
+pub returns-then-counter-6-clause-masked : goal.returns-then-counter-6-clause-masked
+returns-then-counter-6-clause-masked g c =
+    run_of_zeros c.args.key.now c.args.nonce.now c.args.offset 256 c.xor_part-then-counter-6.result c.args.bytes.now
+    c.xor_fours-then-counter-6.new.bytes _ c.xor_fours-then-counter-6.ensures.masked c.xor_fours-then-counter-6.auto.bytes
+    c.xor_part-then-counter-6.ensures.count c.xor_part-then-counter-6.ensures.xored
+
+pub returns-then-counter-7-clause-masked : goal.returns-then-counter-7-clause-masked
+returns-then-counter-7-clause-masked g c =
+    run_of_stream c.args.key.now c.args.nonce.now c.args.offset 192 c.xor_part-then-counter-7.result c.args.bytes.now
+    c.put_three_blocks.new.out _ c.put_three_blocks.auto.out (λ i l. c.put_three_blocks.ensures.stream i (omega (arith, l, c.put_three_blocks.auto.out)))
+    c.xor_part-then-counter-7.ensures.count c.xor_part-then-counter-7.ensures.xored
+
+pub returns-then-counter-8-clause-masked : goal.returns-then-counter-8-clause-masked
+returns-then-counter-8-clause-masked g c =
+    run_of_stream c.args.key.now c.args.nonce.now c.args.offset 128 c.xor_part-then-counter-8.result c.args.bytes.now
+    c.put_two_blocks.new.out _ c.put_two_blocks.auto.out (λ i l. c.put_two_blocks.ensures.stream i (omega (arith, l, c.put_two_blocks.auto.out)))
+    c.xor_part-then-counter-8.ensures.count c.xor_part-then-counter-8.ensures.xored
 
 pub returns-clause-masked : goal.returns-clause-masked
 returns-clause-masked g c =
