@@ -69,6 +69,7 @@ $(packages) bench check-again: native
 check: ready check-documents $(packages) check-program
 check-documents:
 	python3 tools/documents.py
+	python3 tools/edges.py
 	python3 tools/documents/sheets.py
 	python3 bench/speed.py
 	python3 tools/constant-time/summary.py
