@@ -206,13 +206,16 @@ static std::string difference(const party &peer, const record &record) {
     int opened = peer.act(kind, &m, OPENING);
     const uint8_t *text = text_of(kind, &m);
     if (record.invalid) return opened ? "opens it" : "";
-    if (!opened) return "refuses it";
-    if (memcmp(text, record.text.data(), record.text.size()) != 0) return "opens it to " + hex(text, n);
+    std::string what = !opened ? "refuses it" : "opens it to " + hex(text, n);
+    if (opened && memcmp(text, record.text.data(), record.text.size()) == 0) what.clear();
     memset(room, 0, sizeof room);
     m.length = record.text.size();
     if (m.length) memcpy(text_of(kind, &m), record.text.data(), m.length);
-    if (!peer.act(kind, &m, SEALING)) return "does not seal it";
-    return memcmp(room, record.sealed.data(), record.sealed.size()) == 0 ? "" : "seals it to " + hex(room, record.sealed.size());
+    if (!peer.act(kind, &m, SEALING)) return what + " does not seal it";
+    size_t tag = std::min<size_t>(16, record.sealed.size()), end = record.sealed.size() - tag;
+    if (memcmp(room, record.sealed.data(), record.sealed.size()) != 0)
+        what += ", seals it to .." + hex(room + end, tag) + ", not .." + hex(record.sealed.data() + end, tag);
+    return what;
 }
 
 // Whether a peer takes a record: calls take neither sealed bytes that are shorter than what sealing adds, nor nettle other lengths
