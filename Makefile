@@ -10,7 +10,7 @@
 #   make check-again          whether the default library is the same, byte for byte, if it is built in another folder
 #   make check STANDIN=1      the packages over an unproved stand-in of the library, without the toolchain, in two minutes
 #   make dist                 tarballs for C, a crate, wheels, an npm package and SHA256SUMS, in BUILD/dist
-#   make bench                the speed of the library beside other libraries on this machine; WORDS="--kept 5"
+#   make bench                the speed of the library beside other libraries on this machine; WORDS="--kept 5", or WORDS=edges
 #   make constant-time        branches and addresses that depend on secrets; WORDS=--short
 #
 # PREFIX   what is built and tested; BUILD/prefix or BUILD/prefix-aarch64 without it. A test builds what is not in PREFIX yet
@@ -69,6 +69,7 @@ $(packages) bench check-again: native
 check: ready check-documents $(packages) check-program
 check-documents:
 	python3 tools/documents.py
+	python3 tools/edges.py
 	python3 tools/documents/sheets.py
 	python3 bench/speed.py
 	python3 tools/constant-time/summary.py

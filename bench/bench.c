@@ -122,9 +122,9 @@ static void note(const struct kind *kind, int direction, size_t length, double (
 static void tables(int runs) {
     static const size_t lengths[] = {16, 64, 256, 1024, 4096, LARGEST};
     enum { LENGTHS = sizeof lengths / sizeof *lengths };
-    static double best[KINDS][LENGTHS][PARTIES][2];
-    for (int step = 0; step < runs * KINDS * LENGTHS; step++) {
-        int k = step / LENGTHS % KINDS, l = step % LENGTHS;
+    static double best[MEASURED][LENGTHS][PARTIES][2];
+    for (int step = 0; step < runs * MEASURED * LENGTHS; step++) {
+        int k = step / LENGTHS % MEASURED, l = step % LENGTHS;
         size_t count = make(lengths[l], kinds[k].form == WRAP ? 8 : MOST);
         for (size_t i = 0; i < count; i++) agree(&kinds[k], &messages[i]);
         for (int turn = 0; turn < ROUNDS * PARTIES; turn++)
@@ -135,7 +135,7 @@ static void tables(int runs) {
            "rounds.\n\n| | |", runs, ROUNDS);
     for (int l = 0; l < LENGTHS; l++) printf(" %zu B |", lengths[l]);
     printf("\n|---|---|---|---|---|---|---|---|\n");
-    for (int row = 0; row < 2 * KINDS; row++) {
+    for (int row = 0; row < 2 * MEASURED; row++) {
         printf("| %s | %s |", kinds[row / 2].name, directions[row % 2]);
         for (int l = 0; l < LENGTHS; l++) {
             double (*of)[2] = best[row / 2][l];
@@ -199,7 +199,7 @@ static void scan(int passes) {
 
 /* Random messages at any address; their lengths go through all up to 8 KiB. */
 static void try_random(int number) {
-    int count[KINDS] = {0}, peers[KINDS] = {0};
+    int count[MEASURED] = {0}, peers[MEASURED] = {0};
     struct message *m = messages;
     for (int i = 0; i < number; i++) {
         make(0, 1);
@@ -209,7 +209,7 @@ static void try_random(int number) {
         m->aad = data + draw() % (sizeof data - m->aad_length);
         fill(data, sizeof data);
         fill(m->bytes, m->length + 16);
-        for (int k = 0; k < KINDS; k++) {
+        for (int k = 0; k < MEASURED; k++) {
             if (kinds[k].form == WRAP && (m->length < 16 || m->length % 8 != 0)) continue;
             peers[k] = agree(&kinds[k], m);
             count[k]++;
@@ -217,7 +217,7 @@ static void try_random(int number) {
     }
     printf("Sealed to the bytes of each peer, opened, and refused with a bit changed:\n\n"
            "| | messages | peers |\n|---|---|---|\n");
-    for (int k = 0; k < KINDS; k++) printf("| %s | %d | %d |\n", kinds[k].name, count[k], peers[k]);
+    for (int k = 0; k < MEASURED; k++) printf("| %s | %d | %d |\n", kinds[k].name, count[k], peers[k]);
 }
 
 int main(int argc, char **argv) {

@@ -13,7 +13,7 @@
 #include <unistd.h>
 
 enum direction { SEALING, OPENING };
-enum form { CHACHA, GCM, SIV, WRAP };
+enum form { CHACHA, GCM, SIV, WRAP, PADDED };
 static enum { PLAIN, AVX2, ALL } capability;
 
 /* Under --kept the messages that are made at once have one key, which each party sets once. */
@@ -41,10 +41,14 @@ static const struct kind {
     {"AES-256-GCM-SIV", SIV, AEADKIT_AES_256_GCM_SIV, 32},
     {"AES-128-WRAP", WRAP, 0, 16},
     {"AES-256-WRAP", WRAP, 0, 32},
+    {"AES-192-WRAP", WRAP, 0, 24},
+    {"AES-128-WRAP-PAD", PADDED, 0, 16},
+    {"AES-192-WRAP-PAD", PADDED, 0, 24},
+    {"AES-256-WRAP-PAD", PADDED, 0, 32},
 };
-enum { KINDS = sizeof kinds / sizeof *kinds, SUITES = 6 };
+enum { KINDS = sizeof kinds / sizeof *kinds, SUITES = 6, MEASURED = 8 };
 
-/* `bytes` are a text and then room for its tag; for wrapping, room for 8 bytes and then the text. */
+/* `bytes` are a text and then room for its tag; for wrapping, room for 8 bytes and then the text, with room for its padding. */
 struct message {
     uint8_t key[32], nonce[AEADKIT_NONCE_BYTES];
     const uint8_t *aad;
@@ -54,14 +58,16 @@ struct message {
 };
 
 static size_t whole(const struct kind *kind, const struct message *m) {
-    return m->length + (kind->form == WRAP ? AEADKIT_WRAP_BYTES : AEADKIT_TAG_BYTES);
+    return kind->form == PADDED ? (m->length + 7) / 8 * 8 + AEADKIT_WRAP_BYTES
+                                : m->length + (kind->form == WRAP ? AEADKIT_WRAP_BYTES : AEADKIT_TAG_BYTES);
 }
 
 static uint8_t *text_of(const struct kind *kind, const struct message *m) {
-    return m->bytes + (kind->form == WRAP ? AEADKIT_WRAP_BYTES : 0);
+    return m->bytes + (kind->form >= WRAP ? AEADKIT_WRAP_BYTES : 0);
 }
 
-/* Each of by_aeadkit, by_openssl .. seals or opens a message in place, and returns whether it could. */
+/* Each of by_aeadkit, by_openssl .. seals or opens a message in place, and returns whether it could. Opening a wrapping with
+   padding, as edges.cc does, begins with the most bytes that its text may have. */
 
 static int aeadkit_has(const struct kind *kind) {
     return kind != NULL;
@@ -75,6 +81,14 @@ static int by_aeadkit(const struct kind *kind, const struct message *m, enum dir
     static uint8_t apart[1 << 15];
     size_t n = m->length, k = kind->key_length;
     uint8_t *bytes = m->bytes, *tag = bytes + n;
+    if (kind->form == PADDED) {
+        size_t length = n, all = whole(kind, m);
+        uint8_t *text = text_of(kind, m);
+        if (direction == SEALING ? aeadkit_wrap_padded(m->key, k, text, n, apart, all)
+                                 : aeadkit_unwrap_padded(m->key, k, bytes, n + 8, apart, n, &length)) return 0;
+        memcpy(direction == SEALING ? bytes : text, apart, direction == SEALING ? all : length);
+        return 1;
+    }
     if (kind->form == WRAP) {
         uint8_t *text = text_of(kind, m);
         if (direction == SEALING ? aeadkit_wrap(m->key, k, text, n, apart, n + 8)
@@ -119,6 +133,14 @@ static int by_openssl(const struct kind *kind, const struct message *m, enum dir
     uint8_t *bytes = m->bytes, *text = text_of(kind, m), *tag = bytes + m->length;
     const uint8_t *key = to_set(&set[kind - kinds][direction]) || kind->form == WRAP ? m->key : NULL;
     int got, n = (int)m->length;
+    if (kind->form == PADDED) {
+        static uint8_t apart[1 << 13];
+        if (!EVP_CipherInit_ex(context, NULL, NULL, m->key, NULL, -1)
+            || (direction == SEALING ? EVP_CipherUpdate(context, apart, &got, text, n)
+                                     : EVP_CipherUpdate(context, apart, &got, bytes, n + 8)) != 1 || got <= 0) return 0;
+        memcpy(direction == SEALING ? bytes : text, apart, (size_t)got);
+        return 1;
+    }
     if (!EVP_CipherInit_ex(context, NULL, NULL, key, kind->form == WRAP ? NULL : m->nonce, -1)) return 0;
     if (kind->form == WRAP)
         return direction == SEALING ? EVP_CipherUpdate(context, bytes, &got, text, n) == 1
@@ -139,7 +161,7 @@ static int by_openssl(const struct kind *kind, const struct message *m, enum dir
 #include <nettle/version.h>
 
 static int nettle_has(const struct kind *kind) {
-    return kind->form != SIV;
+    return kind->form != SIV && kind->form != PADDED;
 }
 
 static int by_nettle(const struct kind *kind, const struct message *m, enum direction direction) {
@@ -194,11 +216,11 @@ static gcry_cipher_hd_t gcrypt_handles[KINDS];
 /* AES-GCM-SIV from libgcrypt 1.10 on. */
 static int gcrypt_has(const struct kind *kind) {
     static const int modes[] = {GCRY_CIPHER_MODE_POLY1305, GCRY_CIPHER_MODE_GCM, GCRY_CIPHER_MODE_GCM_SIV,
-                                GCRY_CIPHER_MODE_AESWRAP};
+                                GCRY_CIPHER_MODE_AESWRAP, GCRY_CIPHER_MODE_AESWRAP};
     gcry_cipher_hd_t *handle = &gcrypt_handles[kind - kinds];
     int algorithm = kind->form == CHACHA ? GCRY_CIPHER_CHACHA20 : kind->key_length == 16 ? GCRY_CIPHER_AES128
         : kind->key_length == 24 ? GCRY_CIPHER_AES192 : GCRY_CIPHER_AES256;
-    return *handle || gcry_cipher_open(handle, algorithm, modes[kind->form], 0) == 0;
+    return *handle || gcry_cipher_open(handle, algorithm, modes[kind->form], kind->form == PADDED ? GCRY_CIPHER_EXTENDED : 0) == 0;
 }
 
 static int by_gcrypt(const struct kind *kind, const struct message *m, enum direction direction) {
@@ -207,10 +229,10 @@ static int by_gcrypt(const struct kind *kind, const struct message *m, enum dire
     uint8_t *bytes = m->bytes, *text = text_of(kind, m), *tag = bytes + m->length;
     size_t n = m->length;
     /* Under AES-GCM-SIV 1.10.1 gives other bytes for a second message if its key is not set again. */
-    int again = to_set(&set[kind - kinds]) || kind->form == SIV || kind->form == WRAP;
+    int again = to_set(&set[kind - kinds]) || kind->form >= SIV;
     if (again && gcry_cipher_setkey(handle, m->key, kind->key_length)) return 0;
-    if (kind->form == WRAP)
-        return (direction == SEALING ? gcry_cipher_encrypt(handle, bytes, n + 8, text, n)
+    if (kind->form >= WRAP)
+        return (direction == SEALING ? gcry_cipher_encrypt(handle, bytes, whole(kind, m), text, n)
                                      : gcry_cipher_decrypt(handle, text, n, bytes, n + 8)) == 0;
     if (gcry_cipher_setiv(handle, m->nonce, 12)) return 0;
     if (m->aad_length && gcry_cipher_authenticate(handle, m->aad, m->aad_length)) return 0;

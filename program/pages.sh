@@ -92,8 +92,8 @@ the manual
 `files.sh`
 a script that seals and opens files, and keeps the nonce and a label beside each
 @TP
-`VECTOR-FILES.md`, `published.vectors`
-the format of vector files, and published vectors in it
+`VECTOR-FILES.md`, `published.vectors`, `edges.vectors`
+the format of vector files, and published vectors and edges in it
 END
     echo '.SH EXIT STATUS'
     faults '^A fault is'
@@ -109,10 +109,10 @@ END
 
 # The documents, with those of their links that lead to one of them.
 for document in COMMAND.md VECTOR-FILES.md; do
-    sed -E -e 's/\]\(((COMMAND\.md|VECTOR-FILES\.md|published\.vectors)[^)]*)\)/](<\1>)/g' \
+    sed -E -e 's/\]\(((COMMAND\.md|VECTOR-FILES\.md|(published|edges)\.vectors)[^)]*)\)/](<\1>)/g' \
         -e 's/\[([^]]*)\]\([^<)][^)]*\)/\1/g' -e 's/\]\(<([^>]*)>\)/](\1)/g' "$docs/$document" > "$share/doc/aeadkit/$document"
 done
-cp "$docs/published.vectors" "$here/examples/files.sh" "$share/doc/aeadkit/"
+cp "$docs/published.vectors" "$docs/edges.vectors" "$here/examples/files.sh" "$share/doc/aeadkit/"
 cp "$here/completions/aeadkit.bash" "$share/bash-completion/completions/aeadkit"
 cp "$here/completions/_aeadkit" "$share/zsh/site-functions/"
 cp "$here/completions/aeadkit.fish" "$share/fish/vendor_completions.d/"

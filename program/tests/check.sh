@@ -37,8 +37,10 @@ if has groff; then
         grep -qx "$heading" "$room/page" || fail "the man page has no section $heading"
     done
 fi
-records=$(sed -n '1s/.*`\(records [0-9]*\)`.*/\1/p' "$docs/published.vectors")
-[ "$(aeadkit check "$docs/published.vectors")" = "$records" ] || fail "published.vectors has not $records that agree"
+for vectors in published edges; do
+    records=$(sed -n '1s/.*`\(records [0-9]*\)`.*/\1/p' "$docs/$vectors.vectors")
+    [ "$(aeadkit check "$docs/$vectors.vectors")" = "$records" ] || fail "$vectors.vectors has not $records that agree"
+done
 for command in aeadkit $(aeadkit help | awk '/^$/ { on = 0 } on && $1 != "help" { print $1 } /^Commands:/ { on = 1 }'); do
     aeadkit help ${command#aeadkit} | grep -v "^Usage:" > "$room/help"
     [ "$(wc -L < "$room/help")" -le 79 ] || fail "the help of $command has lines of more than 79 columns"

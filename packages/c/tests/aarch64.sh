@@ -29,7 +29,7 @@ CC=aarch64-linux-gnu-gcc "$here/names.sh" "$prefix" "$out"
 run() {
     $qemu -E LD_LIBRARY_PATH="$prefix/lib" "$out/$1" $2 || fail "$1 $2 fails"
 }
-for test in calls "pieces 1000" overlap stack "vectors $here/../../../docs/published.vectors"; do
+for test in calls "pieces 1000" overlap stack "vectors $here/../../../docs/published.vectors" "vectors $here/../../../docs/edges.vectors"; do
     name=${test%% *}
     $cc "$here/$name.c" "$prefix/lib/libaeadkit.a" -Wl,-z,now -o "$out/$name"
     run "$name" "${test#"$name"}"

@@ -1,4 +1,4 @@
-/* Compares the library with a vector file, such as docs/published.vectors: vectors FILE. Each record is sealed and opened whole, under a
+/* Compares the library with a vector file, such as docs/published.vectors or docs/edges.vectors: vectors FILE. Each record is sealed and opened whole, under a
    new and a kept key, in place and in pieces, or wrapped and unwrapped; a record that says `invalid` has to be refused. */
 #include "aeadkit.h"
 #include <stdio.h>
@@ -13,14 +13,14 @@ static struct field {
     uint8_t bytes[MOST];
     size_t length;
 } fields[FIELDS];
-static char line[3 * MOST], suite[32];
+static char line[3 * MOST], suite[32], edge[160];
 static uint8_t got[MOST];
 static int records, wrong;
 
 static void is(const char *what, int holds) {
     if (holds) return;
     wrong = 1;
-    printf("wrong: record %d, %s: %s\n", records, suite, what);
+    printf("wrong: record %d, %s, %s: %s\n", records, suite, edge, what);
 }
 
 static int same(const struct field *wanted) { return !memcmp(got, wanted->bytes, wanted->length); }
@@ -127,6 +127,7 @@ static void record(int invalid) {
 static void take(void) {
     char name[16] = "";
     int start = 0;
+    if (line[0] == '#') sscanf(line, "# %159[^\n]", edge);
     if (sscanf(line, "%15[a-z] =%n", name, &start) < 1) return;
     if (!strcmp(name, "invalid")) record(1);
     if (!strcmp(name, "suite")) {

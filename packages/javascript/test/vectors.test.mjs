@@ -1,15 +1,16 @@
-// Published vectors by every call, and what is refused when one bit of them changes.
+// Published vectors and edges by every call, and what is refused when one bit of them changes.
 import assert from "node:assert/strict";
 import { test } from "node:test";
 import { Suite, TagMismatch, TooShort, WrapIntegrity, WrapLength } from "../aeadkit.mjs";
 import { aeadkit, changed, joined, pieces, records } from "./library.mjs";
 
-const published = records(new URL("../../../docs/published.vectors", import.meta.url));
-const ofSuites = published.filter(({ nonce }) => nonce);
-const ofWraps = published.filter(({ nonce }) => !nonce);
+const all = ["published.vectors", "edges.vectors"].flatMap((file) =>
+    records(new URL(`../../../docs/${file}`, import.meta.url)).map((record) => ({ ...record, file })));
+const ofSuites = all.filter(({ nonce }) => nonce);
+const ofWraps = all.filter(({ nonce }) => !nonce);
 const isInvalid = ({ text }) => text === undefined;
 
-test("the file has vectors of every suite and both wraps", () => {
+test("the files have vectors of every suite and both wraps", () => {
     assert.deepEqual(new Set(ofSuites.map(({ suite }) => suite)), new Set(Object.values(Suite)));
     assert(ofWraps.some(({ suite }) => suite.endsWith("-wrap")) && ofWraps.some(({ suite }) => suite.endsWith("-wrap-pad")));
 });
@@ -51,52 +52,61 @@ function refuses(key, nonce, aad, sealed) {
     }
 }
 
-for (const record of ofSuites) {
-    const { number, source, suite, nonce, aad, sealed, text } = record;
-    test(`record ${number}, ${suite}: ${source}`, () => {
-        const key = aeadkit.key(suite, record.key);
-        if (isInvalid(record)) {
-            refuses(key, nonce, aad, sealed);
-            return;
-        }
-        assert.deepEqual(key.seal(nonce, text, { aad }), sealed);
-        assert.deepEqual(key.open(nonce, sealed, { aad }), text);
-        const inPlace = text.slice();
-        const tag = key.sealInPlace(nonce, inPlace, { aad });
-        assert.deepEqual(joined([inPlace, tag]), sealed);
-        key.openInPlace(nonce, inPlace, tag, { aad });
-        assert.deepEqual(inPlace, text);
-        for (const split of splits(record)) {
-            assert.deepEqual(sealedInPieces(key, nonce, aad, split), sealed);
-        }
-        for (const size of [1, 15, 16, 17]) {
-            assert.deepEqual(openedInPieces(key, nonce, aad, sealed, size), text);
-        }
-        for (const place of [0, sealed.length - 16, sealed.length - 1]) {
-            refuses(key, nonce, aad, changed(sealed, place));
-        }
-        refuses(key, nonce, joined([aad, new Uint8Array(1)]), sealed);
-        refuses(key, changed(nonce, 11), aad, sealed);
-        refuses(aeadkit.key(suite, changed(record.key, 0)), nonce, aad, sealed);
-        refuses(key, nonce, aad, sealed.subarray(0, -1));
-    });
+function sealsAndOpens(record) {
+    const { suite, nonce, aad, sealed, text } = record;
+    const key = aeadkit.key(suite, record.key);
+    if (isInvalid(record)) {
+        refuses(key, nonce, aad, sealed);
+        return;
+    }
+    assert.deepEqual(key.seal(nonce, text, { aad }), sealed);
+    assert.deepEqual(key.open(nonce, sealed, { aad }), text);
+    const inPlace = text.slice();
+    const tag = key.sealInPlace(nonce, inPlace, { aad });
+    assert.deepEqual(joined([inPlace, tag]), sealed);
+    key.openInPlace(nonce, inPlace, tag, { aad });
+    assert.deepEqual(inPlace, text);
+    for (const split of splits(record)) {
+        assert.deepEqual(sealedInPieces(key, nonce, aad, split), sealed);
+    }
+    for (const size of [1, 15, 16, 17]) {
+        assert.deepEqual(openedInPieces(key, nonce, aad, sealed, size), text);
+    }
+    for (const place of [0, sealed.length - 16, sealed.length - 1]) {
+        refuses(key, nonce, aad, changed(sealed, place));
+    }
+    refuses(key, nonce, joined([aad, new Uint8Array(1)]), sealed);
+    refuses(key, changed(nonce, 11), aad, sealed);
+    refuses(aeadkit.key(suite, changed(record.key, 0)), nonce, aad, sealed);
+    refuses(key, nonce, aad, sealed.subarray(0, -1));
 }
 
-for (const { number, source, suite, key, sealed, text } of ofWraps) {
-    test(`record ${number}, ${suite}: ${source}`, () => {
-        const isPadded = suite.endsWith("-pad");
-        const wrap = (bytes) => (isPadded ? aeadkit.wrapPadded(key, bytes) : aeadkit.wrap(key, bytes));
-        const unwrap = (bytes) => (isPadded ? aeadkit.unwrapPadded(key, bytes) : aeadkit.unwrap(key, bytes));
-        if (text === undefined) {
-            const isLength = sealed.length % 8 === 0 && sealed.length >= (isPadded ? 16 : 24);
-            assert.throws(() => unwrap(sealed), isLength ? WrapIntegrity : WrapLength);
-            return;
+function wrapsAndUnwraps({ suite, key, sealed, text }) {
+    const isPadded = suite.endsWith("-pad");
+    const wrap = (bytes) => (isPadded ? aeadkit.wrapPadded(key, bytes) : aeadkit.wrap(key, bytes));
+    const unwrap = (bytes) => (isPadded ? aeadkit.unwrapPadded(key, bytes) : aeadkit.unwrap(key, bytes));
+    if (text === undefined) {
+        const isLength = sealed.length % 8 === 0 && sealed.length >= (isPadded ? 16 : 24);
+        assert.throws(() => unwrap(sealed), isLength ? WrapIntegrity : WrapLength);
+        return;
+    }
+    assert.deepEqual(wrap(text), sealed);
+    assert.deepEqual(unwrap(sealed), text);
+    for (const place of [0, sealed.length - 1]) {
+        assert.throws(() => unwrap(changed(sealed, place)), WrapIntegrity);
+    }
+    assert.throws(() => unwrap(sealed.subarray(1)), WrapLength);
+}
+
+for (const place of new Set(all.map(({ file, suite }) => `${file}, ${suite}`))) {
+    test(place, () => {
+        for (const record of all.filter(({ file, suite }) => `${file}, ${suite}` === place)) {
+            try {
+                (record.nonce ? sealsAndOpens : wrapsAndUnwraps)(record);
+            } catch (error) {
+                error.message = `record ${record.number}, ${record.source}: ${error.message}`;
+                throw error;
+            }
         }
-        assert.deepEqual(wrap(text), sealed);
-        assert.deepEqual(unwrap(sealed), text);
-        for (const place of [0, sealed.length - 1]) {
-            assert.throws(() => unwrap(changed(sealed, place)), WrapIntegrity);
-        }
-        assert.throws(() => unwrap(sealed.subarray(1)), WrapLength);
     });
 }

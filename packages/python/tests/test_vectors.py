@@ -1,25 +1,32 @@
-"""The vectors of docs/published.vectors, by each call that seals, opens, wraps or unwraps."""
+"""The vectors of docs/published.vectors and docs/edges.vectors, by each call that seals, opens, wraps or unwraps."""
 
 import pathlib
 import unittest
 
 from aeadkit import InvalidTag, InvalidUnwrap, Key, Opener, Sealer, SivSealer, Suite, aead, keywrap
 
-FILE = pathlib.Path(__file__).resolve().parents[3] / "docs" / "published.vectors"
+FILES = [pathlib.Path(__file__).resolve().parents[3] / "docs" / name for name in ("published.vectors", "edges.vectors")]
 CLASSES = {Suite.CHACHA20_POLY1305: aead.ChaCha20Poly1305, Suite.AES_128_GCM: aead.AESGCM, Suite.AES_192_GCM: aead.AESGCM,
            Suite.AES_256_GCM: aead.AESGCM, Suite.AES_128_GCM_SIV: aead.AESGCMSIV, Suite.AES_256_GCM_SIV: aead.AESGCMSIV}
 CUTS = [0, 1, 15, 16, 17]
 
 
+def lines():
+    """Each line of the files, with its place."""
+    for file in FILES:
+        for number, line in enumerate(file.read_bytes().decode("latin-1").split("\n"), 1):
+            yield f"{file.name}:{number}", line
+
+
 def records():
-    """Each record (docs/VECTOR-FILES.md) as a dict, with its line. The text is None if the bytes must be refused."""
+    """Each record (docs/VECTOR-FILES.md) as a dict, with the place of its first line. The text is None if the bytes must be refused."""
     record = {}
-    for number, line in enumerate(FILE.read_bytes().decode("latin-1").split("\n"), 1):
+    for place, line in lines():
         name, _, value = (part.strip(" ") for part in line.rstrip("\r ").partition("="))
         if not name or name.startswith("#") or name == "format":
             continue
         if name == "suite":
-            record = {"line": number, "suite": value, "cuts": []}
+            record = {"place": place, "suite": value, "cuts": []}
         elif name == "cuts":
             record["cuts"] = [int(cut) for cut in value.split(",")]
         elif name == "invalid":
@@ -62,7 +69,7 @@ class Vectors(unittest.TestCase):
         for record in records():
             if "nonce" not in record:
                 continue
-            with self.subTest(line=record["line"]):
+            with self.subTest(place=record["place"]):
                 suite = Suite[record["suite"].upper().replace("-", "_")]
                 parts = [record[name] for name in ("key", "nonce", "aad", "sealed")]
                 suites.add(suite)
@@ -112,7 +119,7 @@ class Vectors(unittest.TestCase):
         for record in records():
             if "nonce" in record:
                 continue
-            with self.subTest(line=record["line"]):
+            with self.subTest(place=record["place"]):
                 padding = "_with_padding" if record["suite"].endswith("-pad") else ""
                 paddings.add(padding)
                 wrap, unwrap = getattr(keywrap, f"aes_key_wrap{padding}"), getattr(keywrap, f"aes_key_unwrap{padding}")

@@ -1,4 +1,4 @@
-//! The vectors of `docs/published.vectors`, in the format of `docs/VECTOR-FILES.md`.
+//! The vectors of `docs/published.vectors` and `docs/edges.vectors`, in the format of `docs/VECTOR-FILES.md`.
 
 use aeadkit::{
     Aad, Error, Key, Suite, WrappingKey, unwrap_padded_to_vec, unwrap_to_vec, wrap_padded_to_vec, wrap_to_vec,
@@ -30,9 +30,8 @@ fn check(record: &HashMap<&str, &str>) {
     }
 }
 
-#[test]
-fn published_vectors() {
-    let path = concat!(env!("CARGO_MANIFEST_DIR"), "/../../docs/published.vectors");
+/// Checks each record of a file, which has every suite and both wraps.
+fn check_file(path: &str) {
     let Ok(file) = std::fs::read_to_string(path) else {
         return eprintln!("skipped: {path} is not there, as outside the repository");
     };
@@ -50,4 +49,14 @@ fn published_vectors() {
     assert!(record.is_empty(), "the file ends in a record");
     assert!(Suite::ALL.iter().all(|suite| suites.contains(suite.name())), "{suites:?}");
     assert!(["-wrap", "-wrap-pad"].iter().all(|end| suites.iter().any(|name| name.ends_with(end))), "{suites:?}");
+}
+
+#[test]
+fn published_vectors() {
+    check_file(concat!(env!("CARGO_MANIFEST_DIR"), "/../../docs/published.vectors"));
+}
+
+#[test]
+fn edges() {
+    check_file(concat!(env!("CARGO_MANIFEST_DIR"), "/../../docs/edges.vectors"));
 }
