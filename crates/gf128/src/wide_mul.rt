@@ -123,15 +123,11 @@ impl WideMul {
         self.fourth.set_word(fourth);
     }
 
-    /// Makes the multiplier of the key that `table` is the multiplier of.
-    // Inlined, since a call would move the tables.
-    #[inline(always)]
-    pub fn of_table(table: &TableMul) -> WideMul
-        ensures { ⟦<WideMul as Multiply>⟧.key_bytes result ≡ ⟦<TableMul as Multiply>⟧.key_bytes table.now }
+    /// Makes this the multiplier of the key that `table` is the multiplier of, in place.
+    pub fn set_table(&mut self, table: &TableMul)
+        ensures { ⟦<WideMul as Multiply>⟧.key_bytes self.new ≡ ⟦<TableMul as Multiply>⟧.key_bytes table.now }
     {
-        let mut multiplier = WideMul::none();
-        multiplier.set_multiples(table.word, &table.multiples);
-        multiplier
+        self.set_multiples(table.word, &table.multiples);
     }
 
     // The same, by tables in pairs.

@@ -191,7 +191,8 @@ fn take_text_by_powers<R: Rule>(
         → key.now ≡ cipher_key R.Count.by s → Serves R.order (block_key R.Count.by s) (key_of table.now)
         → nonce.now ≡ s.nonce → TakesPieceText state.old state.new piece.now s tag.now fed }
 {
-    let multiplier = WideMul::of_table(table);
+    let mut multiplier = WideMul::none();
+    multiplier.set_table(table);
     let lent = LentMul::Wide(&multiplier);
     take_text_in_planes::<R>(state, key, lent, nonce, tag, piece);
 }
