@@ -1,14 +1,15 @@
 -- A piece is masked and authenticated, in either order.
-use Rattle.std.proofs.Common.{◌≡◌, ℕ, List, [], ◌++◌, length, subst, sym, ap, ◌∙◌, arith, length-append, zero-add}
+use Rattle.std.proofs.Common.{◌≡◌, ℕ, ◌+◌, ◌-◌, ◌*◌, ◌/◌, List, [], ◌++◌, length, take, drop, subst, sym, ap, ◌∙◌, arith}
+use Rattle.std.proofs.Common.{length-append, zero-add}
+use Rattle.std.proofs.lemmas.List.{append_assoc, length-drop, take_all, take-append-drop}
+use Rattle.octets.specs.Bytes.{pad16}
+use Rattle.octets.specs.Ends.{whole_blocks}
 use Rattle.octets.specs.Masked.{masked}
 use Rattle.octets.proofs.Masks.{length-masked, masked-append}
 use Rattle.aead.specs.declared.authenticator.Authenticator.{Authenticator}
 use Rattle.aead.specs.Sealing.{Setting, mask_of}
 use Rattle.aead.specs.Code.States.{HoldsAuthenticator}
-use Rattle.octets.specs.Ends.{hashed_of}
-use Rattle.octets.specs.declared.work.Order.{Order}
-use Rattle.octets.specs.declared.work.Order.TheVariants.{MaskFirst, HashFirst}
-use Rattle.aead.specs.Code.Masks.{Masks, Takes, MasksAndHashes, as_it_comes, as_it_leaves, hashed_by, none_hashed}
+use Rattle.aead.specs.Code.Masks.{Masks, Takes, MasksAndHashes, as_it_comes, as_it_leaves, none_hashed}
 use Rattle.aead.specs.declared.engine.stage.Masking.{Masking}
 use Rattle.aead.specs.PassStates.{HoldsNumbers}
 use Rattle.aead.specs.Code.MessageKeys.{AreKeysOf}
@@ -44,13 +45,27 @@ mask_first made held m m' a a' was now masks takes = λ s tag fed h k fits.
       next.1,
     )
 
--- if a piece is masked and hashed in the given order, it is masked and authenticated
-pub in_order : {S H : Type 0} (made : S → Setting → List ℕ → ℕ → Type 0)
-    (held : H → Setting → List ℕ → Type 0) (o : Order) (m m' : S) (a a' : Authenticator H) (was now : List ℕ)
-    → Masks made m m' was now → Takes held a a' (hashed_of o was now)
-    → MasksAndHashes made held (hashed_by o) m m' a a' was now
-in_order made held MaskFirst m m' a a' was now masks takes = mask_first made held m m' a a' was now masks takes
-in_order made held HashFirst m m' a a' was now masks takes = hash_first made held m m' a a' was now masks takes
+-- if its hash takes in a piece and its length grows with it, an authenticator takes in the piece
+pub takes_by_hash : {H : Type 0} (held : H → Setting → List ℕ → Type 0) (a b : Authenticator H) (x : List ℕ)
+    → ((s : Setting) (m : List ℕ) → held a.hash s m → held b.hash s (m ++ x))
+    → b.aad_length ≡ a.aad_length → b.length ≡ a.length + length x → Takes held a b x
+takes_by_hash held a b x step aad long = λ s m h room.
+    let all : length (m ++ x) ≡ length m + length x = length-append m x in record {
+      hashed = subst (held b.hash s) (append_assoc (pad16 s.aad) m x) (step s _ h.hashed);
+      aad_length_is = aad ∙ h.aad_length_is;
+      length_is = omega (arith, long, all, h.length_is);
+      fits = record { aad_fits = h.fits.aad_fits; text_fits = omega (arith, all, room) };
+    }
+
+-- the whole blocks of a piece and the bytes after them are the piece
+pub blocks_and_rest : (m x : List ℕ) (n : ℕ) → n ≡ length x
+    → (m ++ whole_blocks x) ++ take (length x - n / 16 * 16) (drop (n / 16 * 16) x) ≡ m ++ x
+blocks_and_rest m x n e =
+    let q : ℕ = length x / 16 * 16 in
+    append_assoc m (whole_blocks x) (take (length x - n / 16 * 16) (drop (n / 16 * 16) x))
+    ∙ ap (λ (j : ℕ). m ++ (whole_blocks x ++ take (length x - j / 16 * 16) (drop (j / 16 * 16) x))) e
+    ∙ ap (λ y. m ++ (whole_blocks x ++ y)) (take_all (length x - q) (drop q x) (omega (arith, length-drop q x)))
+    ∙ ap (λ y. m ++ y) (take-append-drop q x)
 
 -- a stage that has taken in no piece belongs to a task
 pub none_fed : (t : Task) (m : Masking) → AreKeysOf m.keys.now t.setting → m.order ≡ t.order → m.tag ≡ t.tag

@@ -12,8 +12,8 @@ use Rattle.aead.specs.KeyedPasses.{cipher_key}
 use Rattle.aead.specs.Sealing.{Setting, j0, encryption_key, counter_block, mask, mask_by, mask_of}
 use Rattle.aead.specs.Code.States.{MadeByChaCha, MadeByCounter, first_counter, HoldsAuthenticator}
 use Rattle.aead.specs.declared.authenticator.Authenticator.{Authenticator}
-use Rattle.octets.specs.declared.work.Order.{Order}
-use Rattle.octets.specs.declared.work.Order.TheVariants.{MaskFirst, HashFirst}
+use Rattle.aead.specs.declared.step.Order.{Order}
+use Rattle.aead.specs.declared.step.Order.TheVariants.{MaskFirst, HashFirst}
 use Rattle.chacha.specs.Stream.{key_stream_byte}
 use Rattle.aes.specs.Counters.{up_be, up_le, counter_byte}
 
