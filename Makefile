@@ -6,6 +6,8 @@
 #   make install PREFIX=DIR   the library and the program, with the header, pages, completions and documents
 #   make check                every test below
 #   make check-NAME           one of documents, c, rust, python, javascript, program
+#   make check-definitions    the definitions as they are printed, against the vector files: two minutes
+#   make check-compilers      what LLVM and Rattle's own compiler build of the libraries in PREFIX, compared
 #   make check-aarch64        the library for AArch64, under QEMU
 #   make check-again          whether the default library is the same, byte for byte, if it is built in another folder
 #   make check STANDIN=1      the packages over an unproved stand-in of the library, without the toolchain, in two minutes
@@ -30,9 +32,10 @@ override PREFIX := $(abspath $(PREFIX))
 export BUILD BUILDS PROGRAM
 
 packages := check-c check-rust check-python check-javascript
-.PHONY: help library wasm program install ready native check check-documents check-program check-aarch64 check-again dist bench constant-time $(packages)
+.PHONY: help library wasm program install ready native check check-documents check-definitions check-program check-aarch64 check-again \
+    check-compilers dist bench constant-time $(packages)
 help:
-	@sed -n '3,21s/^# \{0,1\}//p' Makefile
+	@sed -n '3,23s/^# \{0,1\}//p' Makefile
 
 ifneq ($(STANDIN),)
 check $(packages):
@@ -40,7 +43,7 @@ check $(packages):
 	$(MAKE) --no-print-directory $(if $(filter check,$@),check-documents $(packages),$@) \
 	    STANDIN= BUILD="$$room" PREFIX="$$room/prefix" LIBRARY=standin WASM=standin-wasm
 	@echo "ok: $@, over the stand-in$(if $(filter check,$@), (the program has none: make check-program))"
-library wasm program install dist bench constant-time check-program check-aarch64 check-again:
+library wasm program install dist bench constant-time check-program check-aarch64 check-again check-compilers:
 	@echo "$@ takes no stand-in" >&2; exit 2
 else
 
@@ -65,7 +68,7 @@ $(PREFIX)/bin/aeadkit:
 
 ready native:
 	@tools/build/lib.sh $@ "$(PREFIX)"
-$(packages) bench check-again: native
+$(packages) bench check-again check-compilers: native
 check: ready check-documents $(packages) check-program
 check-documents:
 	python3 tools/documents.py
@@ -73,6 +76,9 @@ check-documents:
 	python3 tools/documents/sheets.py
 	python3 bench/speed.py
 	python3 tools/constant-time/summary.py
+check-definitions:
+	python3 tools/documents/evaluate.py
+	python3 tools/documents/evaluate.py --changed
 check-c: $(PREFIX)/lib/libaeadkit.a
 	$(MAKE) -C packages/c check PREFIX="$(PREFIX)" OUT="$(BUILD)/c"
 check-rust: $(PREFIX)/lib/libaeadkit.a
@@ -91,6 +97,8 @@ check-aarch64:
 	packages/c/tests/aarch64.sh "$(PREFIX)" "$(BUILD)/c-aarch64"
 check-again: $(PREFIX)/lib/libaeadkit.a
 	tools/build/lib.sh again "$(PREFIX)"
+check-compilers: $(PREFIX)/lib/libaeadkit.a
+	tools/build/lib.sh compilers "$(PREFIX)"
 
 bench: $(PREFIX)/lib/libaeadkit.a
 	bench/bench.sh "$(PREFIX)" $(WORDS)

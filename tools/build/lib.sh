@@ -1,5 +1,5 @@
 #!/bin/sh
-# What the Makefile runs to build and to pack: lib.sh library|program|wasm|standin|standin-wasm|ready|native|again PREFIX,
+# What the Makefile runs to build and to pack: lib.sh library|program|wasm|standin|standin-wasm|ready|native|again|compilers PREFIX,
 # lib.sh dist|missing, or lib.sh same FOLDER FOLDER.
 # BUILD is the folder of the copies that are proved. BUILDS names the builds of the library, and PROGRAM that of the program:
 # `default` and `avx2` are for x86-64, and may stand in one prefix, and `aarch64` needs a prefix of its own.
@@ -353,10 +353,44 @@ again() {
     echo "ok: the library is the same, byte for byte, if it is built in another folder"
 }
 
+# Builds the libraries in this prefix by Rattle's own compiler too, and compares them with LLVM's: each vector file over both, and the
+# results of 20,000 random cases. The tests that look at a struct's padding and at the stack are for LLVM's code alone.
+compilers() {
+    needs_rt
+    needs cc:gcc ld:binutils ar:binutils objcopy:binutils
+    out=$build/compilers compiled="cc -std=c11 -O2 -pthread -I$prefix/include"
+    mkdir -p "$out"
+    for kind in default avx2; do
+        library=$prefix/lib/libaeadkit.a words=''
+        [ $kind = default ] || library=$prefix/lib/x86-64-v3/libaeadkit.a words=--cpu=x86-64-v3
+        [ $kind = default ] || { [ -e "$library" ] && grep -qw avx2 /proc/cpuinfo; } || continue
+        copied $kind
+        # shellcheck disable=SC2086
+        proved capi lib --backend rattle $words
+        mv "$room/crates/capi/out/libcapi.a" "$out/second"
+        linked "$out/second" "$out" "$out"
+        for built in "$library" "$out/libaeadkit.a"; do
+            for test in vectors overlap; do
+                $compiled "$top/packages/c/tests/$test.c" "$built" -o "$out/$test"
+            done
+            $compiled "$top/tools/build/results.c" "$built" -o "$out/results"
+            for file in "$top"/docs/*.vectors; do
+                "$out/vectors" "$file" > "$out/log" || fail "${file##*/} fails over $built: $(cat "$out/log")"
+            done
+            "$out/overlap" > "$out/log" || fail "overlap.c fails over $built: $(cat "$out/log")"
+            "$out/results" 20000 > "$out/results.now" || fail "the random cases fail over $built"
+            [ "$built" = "$library" ] || diff "$out/results.llvm" "$out/results.now" || fail "the two compilers differ"
+            mv "$out/results.now" "$out/results.llvm"
+        done
+        echo "ok: $kind: what LLVM and Rattle's own compiler build gives the same results." \
+            "By the second's own count a call takes at most $(sed -n 's/^built: .* stack-bytes=\([0-9]*\).*/\1/p' "$room/capi.log") bytes of stack"
+    done
+}
+
 command=$1
 prefix=${2:-}
 case $command in
-library | program | wasm | standin | standin-wasm | ready | native | again)
+library | program | wasm | standin | standin-wasm | ready | native | again | compilers)
     [ -n "$prefix" ] || fail "give a PREFIX"
     mkdir -p "$prefix"
     prefix=$(cd "$prefix" && pwd) ;;
@@ -373,6 +407,7 @@ native) native ;;
 dist) dist ;;
 missing) missing ;;
 again) again ;;
+compilers) compilers ;;
 same) same "$2" "$3" ;;
 *) sed -n '2,5s/^# //p' "$0" >&2; exit 2 ;;
 esac

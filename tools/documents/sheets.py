@@ -302,11 +302,12 @@ def drop_cases(definition, without):
 class Maker:
     def __init__(self, definitions, calls, members, closed, meanings, files):
         self.definitions, self.calls, self.members = definitions, calls, members
-        self.closed, self.meanings, self.used_words = closed, meanings, set()
+        self.closed, self.meanings, self.used_words, self.used_closed = closed, meanings, set(), set()
         self.there, self.known, self.files = {}, {}, files
 
     def lines_of(self, definition, sheet):
         if definition.name in self.closed:
+            self.used_closed.add(definition.name)
             return definition.signature()
         return drop_cases(definition, sheet.without)
 
@@ -365,17 +366,21 @@ class Maker:
         for definition in sorted(needed, key=self.rank):
             place(definition)
         self.there[sheet.name] = before | {(d.path, d.name) for d in order}
+        self.twice = {}
+        for path, name in sorted(self.there[sheet.name]):
+            self.twice.setdefault(name, []).append(path)
+        self.twice = {name: paths for name, paths in self.twice.items() if len(paths) > 1}
         return self.text(sheet, order, elsewhere)
 
     def other_names(self, sheet, order):
-        """A line for each word that a file of the sheet takes from another under a name of its own."""
+        """A line for each word that a file of the sheet takes from another under a name of its own, or that stands in several."""
         parts = [(d.path, self.lines_of(d, sheet), self.definitions.imported[d.path]) for d in order]
         parts += [(c.path, c.lines, c.imported) for c in map(self.calls.get, sheet.calls) if c]
         found = {}
         for path, lines, imported in parts:
             for word in {word for word, _ in WORD.findall('\n'.join(lines))} & set(imported):
                 module, name = imported[word]
-                if name != word and '.std.' not in module:
+                if '.std.' not in module and (name != word or word in self.twice):
                     found.setdefault((word, f'{name} of ' * bool(name) + origin(module)), set()).add(path)
         return [f'{word} is {meaning}, in {", ".join(sorted(paths))}' for (word, meaning), paths in sorted(found.items())]
 
@@ -410,7 +415,13 @@ class Maker:
             out += [''] + definition.comment
             if definition.name in self.closed:
                 out.append('-- [given by its type alone: how a state is stored need not be read]')
+            others = [path for path in self.twice.get(definition.name, []) if path != definition.path]
+            if others:
+                out.append(f'-- [{definition.name} of this file is not that of {" or ".join(others)}]')
             out += [plain(line) for line in self.lines_of(definition, sheet)]
+        denied = re.search(rf'(?:¬|unless) \(?({"|".join(self.closed)})\b', '\n'.join(out))
+        if denied:
+            wrong(f'{LISTS}: the sheet {sheet.name} denies {denied.group(1)}, so it has to have its body')
         names = self.other_names(sheet, order)
         if names:
             out += ['', '', '======== Other names', ''] + names
@@ -532,6 +543,8 @@ def main(arguments):
     for word in meanings:
         if word not in maker.used_words:
             wrong(f'{LISTS}: no sheet uses the word {word}')
+    for name in sorted(closed - maker.used_closed):
+        wrong(f'{LISTS}: no sheet has the relation {name}')
     folder = Path(SHEETS)
     if write:
         folder.mkdir(exist_ok=True)
