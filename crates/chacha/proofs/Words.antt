@@ -2,7 +2,7 @@
 use Rattle.std.proofs.Common.{◌≡◌, ℕ, zero, suc, ◌+◌, ◌%◌, ◌^◌, ◌<◌, ◌≤◌, refl, ap, ◌∙◌, arith}
 use Rattle.std.proofs.Common.{List, [], ◌∷◌, ◌++◌, length, length-append, length-drop, take, drop, set}
 use Rattle.std.proofs.Common.{get_or}
-use Rattle.std.proofs.lemmas.List.{take_all, take_more, take_at, drop_more, drop_all, length-take-le}
+use Rattle.std.proofs.lemmas.List.{take_all, take_at, drop_more, drop_all, length-take-le}
 use Rattle.std.proofs.lemmas.List.{append-nil}
 use Rattle.std.proofs.lemmas.List.Concat.{flat_map-append}
 use Rattle.std.specs.Int.{w32, to_le_bytes}
@@ -39,15 +39,6 @@ pub serialized-append : (words more : List ℕ) → serialized (words ++ more) �
     ++ serialized more
 unfolding serialized
 serialized-append words more = flat_map-append (to_le_bytes w32) words more
-
--- the first i + 1 words serialize to the first i words and then the bytes of word i
-pub serialized_more : (words : List ℕ) (i : ℕ) → i < length words
-    → serialized (take (i + 1) words) ≡ serialized (take i words) ++ to_le_bytes w32 (get_or words i 0)
-unfolding serialized
-serialized_more words i h =
-    ap serialized (take_more words i 0 h) ∙ flat_map-append (to_le_bytes w32) (take i words)
-    (get_or words i 0 ∷ [])
-    ∙ ap (λ l. serialized (take i words) ++ l) (append-nil (to_le_bytes w32 (get_or words i 0)))
 
 -- the four bytes from place a on are the bytes at a, a + 1, a + 2 and a + 3
 pub four_bytes : (bytes : List ℕ) (a : ℕ) → a + 4 ≤ length bytes

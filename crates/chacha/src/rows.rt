@@ -244,13 +244,7 @@ impl Rows for [u32x8; 4] {
 
 // Writes the blocks of one set from a counter on, and does a step of other work after each round.
 #[inline(always)]
-pub(crate) fn put_set<R: Rows, W: Work>(
-    key: &Key32,
-    counter: u32,
-    nonce: &Nonce,
-    out: &mut [u8],
-    work: &mut W,
-)
+fn put_set<R: Rows, W: Work>(key: &Key32, counter: u32, nonce: &Nonce, out: &mut [u8], work: &mut W)
     requires counters { counter + R.COUNT ≤ 2 ^ 32 }
     requires size { length out.old ≡ 64 * R.COUNT }
     ensures stream { IsKeyStream out.new key.now counter nonce.now }
@@ -270,8 +264,8 @@ pub(crate) fn put_set<R: Rows, W: Work>(
 }
 
 // Writes the blocks of two sets from a counter on, which are computed together, and does a step of other work after each
-// round.
-#[inline(always)]
+// round. It is a separate function, since its frame would slow down its callers.
+#[inline(never)]
 pub(crate) fn put_two_sets<R: Rows, W: Work>(
     key: &Key32,
     counter: u32,
@@ -304,8 +298,8 @@ pub(crate) fn put_two_sets<R: Rows, W: Work>(
 }
 
 // Writes the blocks of three sets from a counter on, which are computed together, and does a step of other work after each
-// round.
-#[inline(always)]
+// round. It is a separate function, since its frame would slow down its callers.
+#[inline(never)]
 pub(crate) fn put_three_sets<R: Rows, W: Work>(
     key: &Key32,
     counter: u32,
@@ -343,7 +337,7 @@ pub(crate) fn put_three_sets<R: Rows, W: Work>(
     z.put_sums(&start_z, back);
 }
 
-// Writes the two blocks from a counter on, and does twenty steps of other work.
+// Writes the two blocks from a counter on, with AVX2 by one set, and does twenty steps of other work.
 #[inline(never)]
 pub(crate) fn put_two_blocks<W: Work>(
     key: &Key32,
@@ -362,57 +356,6 @@ pub(crate) fn put_two_blocks<W: Work>(
     } else {
         put_two_sets::<[u32x4; 4], W>(key, counter, nonce, out, work);
     }
-}
-
-// Writes the three blocks from a counter on, and does twenty steps of other work.
-#[inline(never)]
-pub(crate) fn put_three_blocks<W: Work>(
-    key: &Key32,
-    counter: u32,
-    nonce: &Nonce,
-    out: &mut [u8],
-    work: &mut W,
-)
-    requires counters { counter + 3 ≤ 2 ^ 32 }
-    requires size { length out.old ≡ 192 }
-    ensures stream { IsKeyStream out.new key.now counter nonce.now }
-    ensures work { (w : W) → W.reaches w work.old → W.reaches w work.new }
-{
-    put_three_sets::<[u32x4; 4], W>(key, counter, nonce, out, work);
-}
-
-// Writes the four blocks from a counter on, in two pairs, and does twenty steps of other work.
-#[inline(never)]
-pub(crate) fn put_four_blocks<W: Work>(
-    key: &Key32,
-    counter: u32,
-    nonce: &Nonce,
-    out: &mut [u8],
-    work: &mut W,
-)
-    requires counters { counter + 4 ≤ 2 ^ 32 }
-    requires size { length out.old ≡ 256 }
-    ensures stream { IsKeyStream out.new key.now counter nonce.now }
-    ensures work { (w : W) → W.reaches w work.old → W.reaches w work.new }
-{
-    put_two_sets::<[u32x8; 4], W>(key, counter, nonce, out, work);
-}
-
-// Writes the six blocks from a counter on, in three pairs, and does twenty steps of other work.
-#[inline(never)]
-pub(crate) fn put_six_blocks<W: Work>(
-    key: &Key32,
-    counter: u32,
-    nonce: &Nonce,
-    out: &mut [u8],
-    work: &mut W,
-)
-    requires counters { counter + 6 ≤ 2 ^ 32 }
-    requires size { length out.old ≡ 384 }
-    ensures stream { IsKeyStream out.new key.now counter nonce.now }
-    ensures work { (w : W) → W.reaches w work.old → W.reaches w work.new }
-{
-    put_three_sets::<[u32x8; 4], W>(key, counter, nonce, out, work);
 }
 
 // The block of a key, a counter and a nonce. It is a function of its own, since the proof knows of a result that it is bytes.

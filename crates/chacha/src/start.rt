@@ -3,7 +3,7 @@
 ghost use Rattle.std.specs.Prelude.{◌≡◌, ◌%◌, ◌<◌, ◌≤◌, ℕ, List, length, slice_index};
 ghost use Rattle.chacha.specs.Stream.{key_stream_byte};
 
-use crate::rows::{put_set, put_three_sets, put_two_sets};
+use crate::rows::{put_three_sets, put_two_blocks, put_two_sets};
 use crate::{lanes, row_beside};
 use octets::{Idle, Key32, Nonce, WIDE};
 use std::simd::{u32x4, u32x8};
@@ -39,11 +39,7 @@ impl KeyStreamStart for TwoBlocks {
 
     fn make(key: &Key32, nonce: &Nonce) -> TwoBlocks {
         let mut start = TwoBlocks { bytes: [0; 128] };
-        if WIDE {
-            put_set::<[u32x8; 4], Idle>(key, 0, nonce, &mut start.bytes, &mut Idle::new());
-        } else {
-            put_two_sets::<[u32x4; 4], Idle>(key, 0, nonce, &mut start.bytes, &mut Idle::new());
-        }
+        put_two_blocks(key, 0, nonce, &mut start.bytes, &mut Idle::new());
         start
     }
 

@@ -14,6 +14,7 @@ use crate::plan::{
 };
 use crate::{lanes, row_beside, rows};
 use octets::{BlockWork, Fault, Idle, Key32, Nonce, Stream, WIDE, Work, xor_into};
+use std::simd::{u32x4, u32x8};
 
 // The length in bytes of the key stream from counter 0 on: 2^32 blocks of 64 bytes.
 const END: u64 = 0x40_0000_0000;
@@ -181,12 +182,12 @@ fn xor_run<W: Work>(
     }
     if WIDE && skip + bytes.len() > FOUR_AT_MOST && counter <= u32::MAX - 5 {
         let mut stream = [0; 384];
-        rows::put_six_blocks(key, counter, nonce, &mut stream, work);
+        rows::put_three_sets::<[u32x8; 4], W>(key, counter, nonce, &mut stream, work);
         return xor_part(&stream, skip, bytes);
     }
     if WIDE && skip + bytes.len() > TWO_AT_MOST && counter <= u32::MAX - 3 {
         let mut stream = [0; 256];
-        rows::put_four_blocks(key, counter, nonce, &mut stream, work);
+        rows::put_two_sets::<[u32x8; 4], W>(key, counter, nonce, &mut stream, work);
         return xor_part(&stream, skip, bytes);
     }
     if skip + bytes.len() > FOUR_AT_MOST && counter <= u32::MAX - 4 {
@@ -201,7 +202,7 @@ fn xor_run<W: Work>(
     }
     if skip + bytes.len() > TWO_AT_MOST && counter <= u32::MAX - 2 {
         let mut stream = [0; 192];
-        rows::put_three_blocks(key, counter, nonce, &mut stream, work);
+        rows::put_three_sets::<[u32x4; 4], W>(key, counter, nonce, &mut stream, work);
         return xor_part(&stream, skip, bytes);
     }
     if skip + bytes.len() > ONE_AT_MOST && counter <= u32::MAX - 1 {

@@ -32,13 +32,13 @@ returns-then-counter-2-clause-masked g c =
 pub returns-then-counter-3-clause-masked : goal.returns-then-counter-3-clause-masked
 returns-then-counter-3-clause-masked g c =
     run_of_stream c.args.key.now c.args.nonce.now c.args.offset 384 c.xor_part-then-counter-3.result c.args.bytes.now
-    c.put_six_blocks.new.out _ c.put_six_blocks.auto.out (λ i l. c.put_six_blocks.ensures.stream i (omega (arith, l, c.put_six_blocks.auto.out)))
+    c.put_three_sets.new.out _ c.put_three_sets.auto.out (λ i l. c.put_three_sets.ensures.stream i (omega (arith, l, c.put_three_sets.auto.out)))
     c.xor_part-then-counter-3.ensures.count c.xor_part-then-counter-3.ensures.xored
 
 pub returns-then-counter-4-clause-masked : goal.returns-then-counter-4-clause-masked
 returns-then-counter-4-clause-masked g c =
     run_of_stream c.args.key.now c.args.nonce.now c.args.offset 256 c.xor_part-then-counter-4.result c.args.bytes.now
-    c.put_four_blocks.new.out _ c.put_four_blocks.auto.out (λ i l. c.put_four_blocks.ensures.stream i (omega (arith, l, c.put_four_blocks.auto.out)))
+    c.put_two_sets.new.out _ c.put_two_sets.auto.out (λ i l. c.put_two_sets.ensures.stream i (omega (arith, l, c.put_two_sets.auto.out)))
     c.xor_part-then-counter-4.ensures.count c.xor_part-then-counter-4.ensures.xored
 
 pub returns-then-counter-5-clause-masked : goal.returns-then-counter-5-clause-masked
@@ -56,7 +56,7 @@ returns-then-counter-6-clause-masked g c =
 pub returns-then-counter-7-clause-masked : goal.returns-then-counter-7-clause-masked
 returns-then-counter-7-clause-masked g c =
     run_of_stream c.args.key.now c.args.nonce.now c.args.offset 192 c.xor_part-then-counter-7.result c.args.bytes.now
-    c.put_three_blocks.new.out _ c.put_three_blocks.auto.out (λ i l. c.put_three_blocks.ensures.stream i (omega (arith, l, c.put_three_blocks.auto.out)))
+    c.put_three_sets-then-counter-7.new.out _ c.put_three_sets-then-counter-7.auto.out (λ i l. c.put_three_sets-then-counter-7.ensures.stream i (omega (arith, l, c.put_three_sets-then-counter-7.auto.out)))
     c.xor_part-then-counter-7.ensures.count c.xor_part-then-counter-7.ensures.xored
 
 pub returns-then-counter-8-clause-masked : goal.returns-then-counter-8-clause-masked
