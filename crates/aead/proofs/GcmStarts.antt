@@ -1,14 +1,15 @@
 -- The blocks counted from J0 mask the tag and the text.
-use Rattle.std.proofs.Common.{◌≡◌, ℕ, zero, suc, ◌+◌, ◌-◌, ◌*◌, ◌/◌, ◌%◌, ◌^◌, ◌<◌, inl, inr, List, [], ◌∷◌, ◌++◌, length}
-use Rattle.std.proofs.Common.{take, drop, get_or, replicate, sym, ap, ap₂, ◌∙◌, arith}
-use Rattle.std.proofs.lemmas.Bool.{cases_lt}
-use Rattle.std.proofs.lemmas.List.{take_at, drop_at, get_or-take, get_or-drop, get_or_append_left, get_or-append-add}
-use Rattle.std.proofs.lemmas.List.{length-append, length-take-le, length-drop, append-nil}
+use Rattle.std.proofs.Common.{◌≡◌, ℕ, ◌+◌, ◌-◌, ◌*◌, ◌/◌, ◌%◌, ◌^◌, List, [], ◌∷◌, ◌++◌, length}
+use Rattle.std.proofs.Common.{take, drop, get_or, replicate, refl, sym, ap, ap₂, ◌∙◌, arith}
+use Rattle.std.proofs.lemmas.List.{take_at, drop_at, get_or-take, get_or-drop}
+use Rattle.std.proofs.lemmas.List.{length-take-le, length-drop, length-replicate}
 use Rattle.std.specs.Int.{w128, bytes_high_first, to_le_bytes}
+use Rattle.std.specs.Int.Bits.{xor_zero_l, xor_zero_r}
 use Rattle.octets.specs.Bytes.{AreBytes, be, le, xor_bytes}
 use Rattle.octets.specs.Masked.{masked}
 use Rattle.octets.proofs.Masks.{xor_bytes-masked}
 use Rattle.octets.proofs.Numbers.{le_split, le_padded}
+use Rattle.octets.proofs.Xors.{xor_bytes-append}
 use Rattle.aes.specs.Cipher.{cipher}
 use Rattle.aes.specs.Counters.{up_be, counter_byte}
 use Rattle.aead.specs.Sealing.{Setting, j0, mask_of}
@@ -58,34 +59,28 @@ start_masks_text start s tag text k is count =
     ∙ ap (λ b. get_or (cipher s.key b) r 0) (sym (next_from_j0 s.nonce q is.nonce_length)) ∙ ap f here)
     ∙ sym (ap (λ f. masked f 0 text) (gcm_mask s tag is.by_gcm))
 
--- ---- the block of the nonce and a counter, as a number
+-- ---- the block of the nonce and a counter
 
-counter_small : (c i : ℕ) → c < 256 → get_or (0 ∷ 0 ∷ 0 ∷ c ∷ []) i 0 < 256
-counter_small c zero h = omega arith
-counter_small c (suc zero) h = omega arith
-counter_small c (suc (suc zero)) h = omega arith
-counter_small c (suc (suc (suc zero))) h = h
-counter_small c (suc (suc (suc (suc i)))) h = omega arith
+unchanged : (xs : List ℕ) → xor_bytes xs (replicate (length xs) 0) ≡ xs
+unfolding xor_bytes
+unchanged [] = refl
+unchanged (x ∷ xs) = ap₂ (λ (y : ℕ) (ys : List ℕ). y ∷ ys) (xor_zero_r x) (unchanged xs)
 
--- its bytes are those of the sum of three numbers: the first 8 bytes of the nonce, the others, and the counter
-pub counted_number : (nonce : List ℕ) (low high c : ℕ) → AreBytes 12 nonce → c < 256 → low ≡ le (take 8 nonce)
-    → high ≡ le (drop 8 nonce) → to_le_bytes w128 (low + high * 2 ^ 64 + c * 2 ^ 120) ≡ nonce ++ 0 ∷ 0 ∷ 0 ∷ c ∷ []
-unfolding le
-counted_number nonce low high c b h el eh =
+-- it is the nonce as a number of 16 bytes, given by its first 8 bytes and the others, XORed with the counter in the last byte
+pub counted_block : (nonce : List ℕ) (low high c : ℕ) → AreBytes 12 nonce → low ≡ le (take 8 nonce)
+    → high ≡ le (drop 8 nonce) → xor_bytes (to_le_bytes w128 (low + high * 2 ^ 64)) (replicate 12 0 ++ 0 ∷ 0 ∷ 0 ∷ c ∷ [])
+    ≡ nonce ++ 0 ∷ 0 ∷ 0 ∷ c ∷ []
+unfolding xor_bytes
+counted_block nonce low high c b el eh =
     let last : List ℕ = 0 ∷ 0 ∷ 0 ∷ c ∷ [] in
-    let bs : List ℕ = nonce ++ last in
-    let long : length bs ≡ 16 = length-append nonce last ∙ ap (λ n. n + 4) b.length_is in
-    let small : (i : ℕ) → get_or bs i 0 < 256 = λ i. elim (cases_lt i 12) [
-      | inl l ↦ rw (get_or_append_left nonce last 0 i (omega (arith, l, b.length_is))) (b.bytes i)
-      | inr l ↦
-          let there : i ≡ length nonce + (i - 12) = omega (arith, l, b.length_is) in
-          rw (ap (λ j. get_or bs j 0) there ∙ get_or-append-add nonce last (i - 12) 0) (counter_small c (i - 12) h)
-    ] in
-    let parts : le bs ≡ le nonce + 256 ^ 12 * le last =
-    le_split bs 12 (omega (arith, long)) ∙ ap₂ (λ x y. le x + 256 ^ 12 * le y) (take_at nonce last 12 b.length_is)
-    (drop_at nonce last 12 b.length_is) in
-    let halves = le_split nonce 8 (omega (arith, b.length_is)) in
-    let number : low + high * 2 ^ 64 + c * 2 ^ 120 ≡ le bs = omega (arith, parts, halves, el, eh) in
-    let none : 16 - length bs ≡ 0 = omega (arith, long) in
-    ap (to_le_bytes w128) number ∙ le_padded bs (omega (arith, long)) small
-    ∙ ap (λ n. bs ++ replicate n 0) none ∙ append-nil bs
+    let none : List ℕ = 0 ∷ 0 ∷ 0 ∷ 0 ∷ [] in
+    let number : low + high * 2 ^ 64 ≡ le nonce = omega (arith, le_split nonce 8 (omega (arith, b.length_is)), el, eh) in
+    let rest : 16 - length nonce ≡ 4 = omega (arith, b.length_is) in
+    let padded : to_le_bytes w128 (low + high * 2 ^ 64) ≡ nonce ++ none =
+    ap (to_le_bytes w128) number ∙ le_padded nonce (omega (arith, b.length_is)) b.bytes
+    ∙ ap (λ n. nonce ++ replicate n 0) rest in
+    let same : 12 ≡ length nonce = sym b.length_is in
+    ap (λ x. xor_bytes x (replicate 12 0 ++ last)) padded
+    ∙ xor_bytes-append nonce (replicate 12 0) none last (b.length_is ∙ sym (length-replicate {A = ℕ} 12 0))
+    ∙ ap₂ (λ x y. x ++ y) (ap (λ n. xor_bytes nonce (replicate n 0)) same ∙ unchanged nonce)
+    (ap (λ z. 0 ∷ 0 ∷ 0 ∷ z ∷ []) (xor_zero_l c))

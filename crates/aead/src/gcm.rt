@@ -122,8 +122,8 @@ pub(crate) fn masked_tag(mask: &Block, digest: &Block) -> Tag
     Tag::new(xored(mask.bytes(), digest.bytes()))
 }
 
-// Returns the block of the nonce and a counter (SP 800-38D, 7.1). It is made in a register: bytes that are written in pieces are
-// slow to read at once.
+// Returns the block of the nonce and a counter (SP 800-38D, 7.1). It is made as one vector, since 16 bytes that were written in pieces
+// are slow to read at once; of the counter in the sum LLVM would make pieces again.
 #[inline(always)]
 pub(crate) fn nonce_and_counter(nonce: &Nonce, counter: u8) -> Block
     ensures value { result ≡ nonce.now ++ 0 ∷ 0 ∷ 0 ∷ counter ∷ [] }
@@ -136,12 +136,12 @@ pub(crate) fn nonce_and_counter(nonce: &Nonce, counter: u8) -> Block
     back.copy_from_slice(&bytes[8..]);
     let low = u128::from(u64::from_le_bytes(front));
     let high = u128::from(u32::from_le_bytes(back)) * 0x1_0000_0000_0000_0000;
-    let last = u128::from(counter) * 0x0100_0000_0000_0000_0000_0000_0000_0000;
-    Block::new(le_bytes(low + high + last))
+    let last = [0, 0, 0, 0, 0, 0, 0, 0, 0, 0, 0, 0, 0, 0, 0, counter];
+    Block::new(xored(&le_bytes(low + high), &last))
 }
 
-// Whether the counter blocks of a text of this length are encrypted in one call with J0: one in a pair, two or three in a call of
-// four blocks. Where a vector has 16 bytes, a pair and J0 apart take less time than four.
+// Whether the counter blocks of a text of this length are encrypted in one call with J0: one in a pair, two or three among four.
+// Without vectors of 32 bytes, a pair and J0 apart take less time than four.
 #[inline(always)]
 fn is_short(count: usize) -> bool
     ensures { result ≡ true → count ≤ 48 }

@@ -1,9 +1,9 @@
-use Rattle.std.proofs.Common.{◌≡◌, List, ℕ, ◌+◌, ◌*◌, ◌^◌, length, take, drop, ap, sym, ◌∙◌, arith}
+use Rattle.std.proofs.Common.{◌≡◌, List, ℕ, [], ◌∷◌, ◌++◌, length, take, drop, replicate, ap, sym, ◌∙◌, arith}
 use Rattle.std.proofs.lemmas.List.{take_all, length-drop}
-use Rattle.std.specs.Int.{w32, w64, w128, to_le_bytes}
-use Rattle.octets.specs.Bytes.{le}
+use Rattle.std.specs.Int.{w32, w64}
+use Rattle.octets.specs.Bytes.{le, xor_bytes}
 use Rattle.octets.proofs.Numbers.{le_is}
-use Rattle.aead.proofs.GcmStarts.{counted_number}
+use Rattle.aead.proofs.GcmStarts.{counted_block}
 use Rattle.aead.proofs.gcm.nonce_and_counter.Goals as goal
 
 pub returns-clause-value : goal.returns-clause-value
@@ -20,7 +20,6 @@ returns-clause-value c =
     ∙ sym (le_is w64 c.copy_from_slice.new.self (omega arith) (omega arith)) ∙ ap le first in
     let high_is : c.from-high.result ≡ le (drop 8 nonce) = c.from-high.ensures ∙ c.from_le_bytes-2.ensures
     ∙ sym (le_is w32 c.copy_from_slice-2.new.self (omega arith) (omega arith)) ∙ ap le second in
-    c.new.ensures.value ∙ c.le_bytes.ensures
-    ∙ ap (λ (x : ℕ). to_le_bytes w128 (c.from-low.result + c.from-high.result * 2 ^ 64 + x * 2 ^ 120)) c.from-last.ensures
-    ∙ counted_number nonce c.from-low.result c.from-high.result c.args.counter c.bytes-bytes.ensures.are_bytes
-    c.ranges.counter.fits low_is high_is
+    c.new.ensures.value ∙ c.xored.ensures
+    ∙ ap (λ x. xor_bytes x (replicate 12 0 ++ 0 ∷ 0 ∷ 0 ∷ c.args.counter ∷ [])) c.le_bytes.ensures
+    ∙ counted_block nonce c.from-low.result c.from-high.result c.args.counter c.bytes-bytes.ensures.are_bytes low_is high_is
