@@ -12,6 +12,7 @@ mod GcmSivVector
 mod CutPieces
 mod Maskings
 mod BufferedStreams
+mod GcmStarts
 mod Tags
 mod Measuring
 mod Passing

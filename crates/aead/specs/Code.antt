@@ -7,6 +7,7 @@ pub mod Maskings
 pub mod Masks
 pub mod MessageKeys
 pub mod Buffered
+pub mod GcmStarts
 pub mod Extents
 pub mod Findings
 pub mod Passes

@@ -1,22 +1,27 @@
 //! The cipher AES-GCM (SP 800-38D, 7), with nonces of 12 bytes.
 
-ghost use Rattle.std.specs.Prelude.{◌≡◌, ◌≢◌, ◌<◌, ◌≤◌, ◌^◌, ◌++◌, ◌∷◌, ℕ, List, [], length, MatchResult};
+ghost use Rattle.std.specs.Prelude.{◌≡◌, ◌≢◌, ◌+◌, ◌<◌, ◌≤◌, ◌^◌, ◌++◌, ◌∷◌, ℕ, List, [], length, true, MatchResult};
 ghost use Rattle.std.proofs.Common.{ap};
 ghost use Rattle.aes.specs.Cipher.{cipher, IsKey};
 ghost use Rattle.aead.specs.declared.suite.Suite.{Suite};
 ghost use Rattle.aead.specs.Suites.{construction_of, is_one_pass, key_length, text_limit, aad_limit, ByGcm};
-ghost use Rattle.aead.specs.Sealing.{Setting, Opened, hash_key, j0, tag_over};
+ghost use Rattle.octets.specs.Bytes.{block_at};
+ghost use Rattle.aes.specs.Counters.{up_be};
+ghost use Rattle.aead.specs.Sealing.{Setting, Fits, Opened, hash_key, j0, tag_over};
 ghost use Rattle.aead.specs.PassStates.{IsMessageSecret};
 ghost use Rattle.aead.specs.Code.States.{digest_over};
+ghost use Rattle.aead.specs.Code.GcmStarts.{IsStart};
+ghost use Rattle.aead.specs.KeyedPasses.{setting_of};
 ghost use Rattle.aead.specs.Ciphers.{Keyed, setting};
 ghost use Rattle.aead.specs.InPlace.{OpensInPlace};
 
 use crate::aead::Aead;
-use crate::one_pass::{OnePass, open_whole, seal_whole};
+use crate::authenticator::Authenticator;
+use crate::one_pass::{OnePass, open_whole, seal_whole, tells_bytes};
 use crate::suite::Suite;
 use aes::{AesKey, CtrBe};
 use gf128::{Ghash, Keyed128, Multiply, TableMul, WideMul};
-use octets::{Block, Fault, Nonce, Tag, joined, xored};
+use octets::{Block, Fault, Nonce, Tag, WIDE, joined, le_bytes, same, xor_into, xored};
 use std::marker::Model;
 
 /// AES-GCM under a key of 16, 24 or 32 bytes (SP 800-38D). Opening in place authenticates before it
@@ -117,16 +122,152 @@ pub(crate) fn masked_tag(mask: &Block, digest: &Block) -> Tag
     Tag::new(xored(mask.bytes(), digest.bytes()))
 }
 
-// Returns the block of the nonce and a counter (SP 800-38D, 7.1). The last word is written as one, since the cipher reads words.
+// Returns the block of the nonce and a counter (SP 800-38D, 7.1). It is made as one vector, since 16 bytes that were written in pieces
+// are slow to read at once; of the counter in the sum LLVM would make pieces again.
 #[inline(always)]
 pub(crate) fn nonce_and_counter(nonce: &Nonce, counter: u8) -> Block
     ensures value { result ≡ nonce.now ++ 0 ∷ 0 ∷ 0 ∷ counter ∷ [] }
     ensures nonce_length { length nonce.now ≡ 12 }
 {
-    let mut bytes = [0; 16];
-    bytes[..12].copy_from_slice(nonce.bytes());
-    bytes[12..].copy_from_slice(&[0, 0, 0, counter]);
-    Block::new(bytes)
+    let bytes = nonce.bytes();
+    let mut front = [0; 8];
+    front.copy_from_slice(&bytes[..8]);
+    let mut back = [0; 4];
+    back.copy_from_slice(&bytes[8..]);
+    let low = u128::from(u64::from_le_bytes(front));
+    let high = u128::from(u32::from_le_bytes(back)) * 0x1_0000_0000_0000_0000;
+    let last = [0, 0, 0, 0, 0, 0, 0, 0, 0, 0, 0, 0, 0, 0, 0, counter];
+    Block::new(xored(&le_bytes(low + high), &last))
+}
+
+// Whether the counter blocks of a text of this length are encrypted in one call with J0: one in a pair, two or three among four.
+// Without vectors of 32 bytes, a pair and J0 apart take less time than four.
+#[inline(always)]
+fn is_short(count: usize) -> bool
+    ensures { result ≡ true → count ≤ 48 }
+{
+    0 < count && count <= 48 && (WIDE || count <= 16 || 32 < count)
+}
+
+// Returns J0 and the counter block after it (SP 800-38D, 7.1).
+#[inline(always)]
+fn two_blocks(nonce: &Nonce) -> [u8; 32]
+    ensures blocks { (q : ℕ) → q < 2 → block_at result q ≡ up_be (j0 nonce.now) q }
+    ensures nonce_length { length nonce.now ≡ 12 }
+{
+    joined(
+        nonce_and_counter(nonce, 1).bytes(),
+        nonce_and_counter(nonce, 2).bytes(),
+    )
+}
+
+// Returns J0 and the three counter blocks after it (SP 800-38D, 7.1).
+#[inline(always)]
+fn four_blocks(nonce: &Nonce) -> [u8; 64]
+    ensures blocks { (q : ℕ) → q < 4 → block_at result q ≡ up_be (j0 nonce.now) q }
+    ensures nonce_length { length nonce.now ≡ 12 }
+{
+    let front: [u8; 32] = joined(
+        nonce_and_counter(nonce, 1).bytes(),
+        nonce_and_counter(nonce, 2).bytes(),
+    );
+    let back = joined(
+        nonce_and_counter(nonce, 3).bytes(),
+        nonce_and_counter(nonce, 4).bytes(),
+    );
+    joined(&front, &back)
+}
+
+// Returns the tag over a short ciphertext. `start` is the ciphers of J0 and of the counter blocks.
+#[inline(always)]
+fn short_tag<M: Multiply>(multiplier: &M, start: &[u8], aad: &[u8], body: &[u8]) -> Tag
+    requires { 16 ≤ length start.now }
+    ensures { (s : Setting) → IsStart start.now s (length body.now) → M.key_bytes multiplier.now ≡ hash_key s.key
+        → s.aad ≡ aad.now → Fits s body.now → result ≡ tag_over s.suite s.key s.nonce s.aad body.now }
+{
+    let mut authenticator = Authenticator::empty(Ghash::with(multiplier));
+    authenticator.begin(aad);
+    authenticator.update(body);
+    let mut mask = [0; 16];
+    mask.copy_from_slice(&start[..16]);
+    masked_tag(&Block::new(mask), &authenticator.digest())
+}
+
+// Seals a short text. `start` is the ciphers of J0 and of the counter blocks.
+#[inline(never)]
+fn seal_from<M: Multiply>(multiplier: &M, start: &[u8], aad: &[u8], text: &mut [u8]) -> Tag
+    requires { 16 + length text.old ≤ length start.now }
+    ensures { (s : Setting) → IsStart start.now s (length text.old) → M.key_bytes multiplier.now ≡ hash_key s.key
+        → s.aad ≡ aad.now → Fits s text.old → Opened s (text.new ++ result) text.old }
+{
+    tells_bytes(text);
+    xor_into(text, &start[16..16 + text.len()]);
+    short_tag(multiplier, start, aad, text)
+}
+
+// Opens a short ciphertext. `start` is the ciphers of J0 and of the counter blocks.
+#[inline(never)]
+fn open_from<M: Multiply>(
+    multiplier: &M,
+    start: &[u8],
+    aad: &[u8],
+    body: &mut [u8],
+    tag: &Tag,
+) -> Result<(), Fault>
+    requires { 16 + length body.old ≤ length start.now }
+    ensures { (s : Setting) → IsStart start.now s (length body.old) → M.key_bytes multiplier.now ≡ hash_key s.key
+        → s.aad ≡ aad.now → Fits s body.old → OpensInPlace s tag.now body.old body.new result }
+{
+    let given = tag.bytes();
+    if !same(short_tag(multiplier, start, aad, body).bytes(), given) {
+        return Err(Fault::TagMismatch);
+    }
+    xor_into(body, &start[16..16 + body.len()]);
+    Ok(())
+}
+
+// Seals a short text, as `seal_fitting` does. It is a separate function, since its frame would slow down other texts.
+#[inline(never)]
+fn seal_short<M: Multiply>(
+    key: &AesKey,
+    multiplier: M,
+    nonce: &Nonce,
+    aad: &[u8],
+    text: &mut [u8],
+) -> Tag
+    requires { length text.old ≤ 48 }
+    ensures { (suite : Suite) → construction_of suite ≡ ByGcm → M.key_bytes multiplier ≡ hash_key key.now
+        → let s = setting_of suite key.now nonce.now aad.now in Fits s text.old → Opened s (text.new ++ result) text.old }
+{
+    if text.len() <= 16 {
+        let start = key.encrypt_two(&two_blocks(nonce));
+        return seal_from(&multiplier, &start, aad, text);
+    }
+    let start = key.encrypt_four(&four_blocks(nonce));
+    seal_from(&multiplier, &start, aad, text)
+}
+
+// Opens a short ciphertext, as `open_fitting` does.
+#[inline(never)]
+fn open_short<M: Multiply>(
+    key: &AesKey,
+    multiplier: M,
+    nonce: &Nonce,
+    aad: &[u8],
+    body: &mut [u8],
+    tag: &Tag,
+) -> Result<(), Fault>
+    requires { length body.old ≤ 48 }
+    ensures { (suite : Suite) → construction_of suite ≡ ByGcm → M.key_bytes multiplier ≡ hash_key key.now
+        → let s = setting_of suite key.now nonce.now aad.now in Fits s body.old
+        → OpensInPlace s tag.now body.old body.new result }
+{
+    if body.len() <= 16 {
+        let start = key.encrypt_two(&two_blocks(nonce));
+        return open_from(&multiplier, &start, aad, body, tag);
+    }
+    let start = key.encrypt_four(&four_blocks(nonce));
+    open_from(&multiplier, &start, aad, body, tag)
 }
 
 /// AES-GCM (SP 800-38D) by a key's schedule and a multiplier by its hash subkey, which the caller keeps, as a [`Gcm`] keeps its own.
@@ -202,6 +343,9 @@ impl<'k, M: Multiply + Copy> Aead for BorrowedGcm<'k, M> {
     }
 
     fn seal_fitting(&self, nonce: &Nonce, aad: &[u8], text: &mut [u8]) -> Tag {
+        if is_short(text.len()) {
+            return seal_short(self.key, self.multiplier, nonce, aad, text);
+        }
         let cipher = self;
         seal_whole(&NoncedGcm { cipher, nonce }, aad, text)
     }
@@ -213,6 +357,9 @@ impl<'k, M: Multiply + Copy> Aead for BorrowedGcm<'k, M> {
         body: &mut [u8],
         tag: &Tag,
     ) -> Result<(), Fault> {
+        if is_short(body.len()) {
+            return open_short(self.key, self.multiplier, nonce, aad, body, tag);
+        }
         let cipher = self;
         open_whole(&NoncedGcm { cipher, nonce }, aad, body, tag)
     }

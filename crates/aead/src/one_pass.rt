@@ -43,7 +43,7 @@ pub(crate) trait OnePass {
 }
 
 // Does nothing when it runs. It tells the proof of its caller that each byte of a slice is below 256.
-fn tells_bytes(bytes: &[u8])
+pub(crate) fn tells_bytes(bytes: &[u8])
     ensures { (i : ℕ) → get_or bytes.now i 0 < 256 }
 {}
 

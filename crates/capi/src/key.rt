@@ -3,7 +3,7 @@
 ghost use Rattle.std.specs.Prelude.{◌≡◌, ◌≢◌, ◌≤◌, ℕ, List, [], length, true, false, MatchResult, IfOk, OnErr};
 ghost use Rattle.octets.specs.Numbers.{HasOutcome};
 ghost use Rattle.aead.specs.declared.suite.Suite.{Suite};
-ghost use Rattle.aead.specs.declared.suite.Construction.TheVariants.{GcmSiv as ByGcmSiv};
+ghost use Rattle.aead.specs.declared.suite.Construction.TheVariants.{Gcm as ByGcm, GcmSiv as ByGcmSiv};
 ghost use Rattle.aead.specs.Suites.{construction_of, is_one_pass, aad_limit, text_limit, suite_number};
 ghost use Rattle.aead.specs.Pieces.{MasksByBytes};
 ghost use Rattle.aead.specs.KeyedPasses.{setting_of, HasBegun, HasLengths, BeginRefused};
@@ -23,6 +23,54 @@ use crate::suites::{NOT_BEGUN, UNKNOWN_SUITE, is_siv, marked};
 use crate::whole::{Direction, Keys, Opening, Sealing, open_to, run_in_place, seal_to};
 use aead::{BorrowedGcm, ChaChaPoly, Construction, GcmSiv, KeyAndNonce, PassState, Suite};
 use octets::{Fault, Key32, Nonce, outcome_number};
+
+// Seals or opens under a kept key of AES-GCM. It is not inlined, since the compiler clears the locals of all arms of a `match` when the
+// function is entered, and a key is 248 bytes.
+#[inline(never)]
+fn run_gcm_by_kept<D: Direction>(
+    kept: &StoredKey,
+    suite: Suite,
+    nonce: &Nonce,
+    aad: &[u8],
+    text: &mut [u8],
+    tag: &mut [u8; 16],
+) -> Result<(), Fault>
+    requires marked { kept.now.numbers.mark ≡ key_mark suite }
+    requires by_gcm { construction_of suite ≡ ByGcm }
+    requires lengths { HasLengths (setting_of suite (first_key suite kept.now.numbers.key) nonce.now aad.now) }
+    requires aad_fits { length aad.now ≤ aad_limit suite }
+    requires text_fits { length text.old ≤ text_limit suite }
+    ensures { let s = setting_of suite (first_key suite kept.now.numbers.key) nonce.now aad.now in
+        MatchResult result (λ _. D.done s text.old tag.old text.new tag.new)
+        (D.refused s text.old tag.old text.new tag.new) }
+{
+    let key = kept.aes(suite);
+    let cipher = BorrowedGcm::new(suite, &key, kept.multiplier(suite));
+    D::run(&cipher, nonce, aad, text, tag)
+}
+
+// Seals or opens under a kept key of AES-GCM-SIV. It is not inlined, as `run_gcm_by_kept`.
+#[inline(never)]
+fn run_siv_by_kept<D: Direction>(
+    kept: &StoredKey,
+    suite: Suite,
+    nonce: &Nonce,
+    aad: &[u8],
+    text: &mut [u8],
+    tag: &mut [u8; 16],
+) -> Result<(), Fault>
+    requires marked { kept.now.numbers.mark ≡ key_mark suite }
+    requires by_siv { construction_of suite ≡ ByGcmSiv }
+    requires lengths { HasLengths (setting_of suite (first_key suite kept.now.numbers.key) nonce.now aad.now) }
+    requires aad_fits { length aad.now ≤ aad_limit suite }
+    requires text_fits { length text.old ≤ text_limit suite }
+    ensures { let s = setting_of suite (first_key suite kept.now.numbers.key) nonce.now aad.now in
+        MatchResult result (λ _. D.done s text.old tag.old text.new tag.new)
+        (D.refused s text.old tag.old text.new tag.new) }
+{
+    let cipher = GcmSiv::new(suite, kept.aes(suite));
+    D::run(&cipher, nonce, aad, text, tag)
+}
 
 // Seals or opens under a kept key with a nonce, once all lengths are known to fit.
 fn run_by_kept<D: Direction>(
@@ -46,15 +94,8 @@ fn run_by_kept<D: Direction>(
             let cipher = ChaChaPoly::new(&Key32::new(kept.numbers.key));
             D::run(&cipher, nonce, aad, text, tag)
         }
-        Construction::Gcm => {
-            let key = kept.aes(suite);
-            let cipher = BorrowedGcm::new(suite, &key, kept.multiplier(suite));
-            D::run(&cipher, nonce, aad, text, tag)
-        }
-        Construction::GcmSiv => {
-            let cipher = GcmSiv::new(suite, kept.aes(suite));
-            D::run(&cipher, nonce, aad, text, tag)
-        }
+        Construction::Gcm => run_gcm_by_kept::<D>(kept, suite, nonce, aad, text, tag),
+        Construction::GcmSiv => run_siv_by_kept::<D>(kept, suite, nonce, aad, text, tag),
     }
 }
 
