@@ -9,7 +9,7 @@ use Rattle.std.proofs.lemmas.List.{append-nil, take_all, drop_all, take_at, drop
 use Rattle.std.proofs.lemmas.List.{take-append-le, take-take}
 use Rattle.std.proofs.lemmas.Slice.Eq.{bytes_eq-Decides}
 use Rattle.octets.specs.Masked.{masked}
-use Rattle.octets.specs.declared.work.Order.{Order}
+use Rattle.aead.specs.declared.step.Order.{Order}
 use Rattle.octets.proofs.Devices.{consumes_more}
 use Rattle.octets.proofs.Masks.{take-masked}
 use Rattle.aead.specs.declared.engine.stage.Masking.{Masking}

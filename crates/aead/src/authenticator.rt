@@ -3,13 +3,12 @@
 //! lengths (RFC 8439, 2.8; SP 800-38D, 7.1; RFC 8452, 4).
 
 ghost use Rattle.std.specs.Prelude.{◌≡◌, ◌+◌, ◌<◌, ◌≤◌, ◌^◌, ◌++◌, ℕ, List, [], get_or, length};
-ghost use Rattle.octets.specs.Ends.{hashed_of};
 ghost use Rattle.aead.specs.Suites.{text_limit, aad_limit};
 ghost use Rattle.aead.specs.Sealing.{Setting};
 ghost use Rattle.aead.specs.Code.States.{HoldsAuthenticator, digest_over};
 
 use crate::hashes::TagHash;
-use octets::{Block, Order, Stream};
+use octets::Block;
 
 // The hash of the associated data and of the bytes after it, and both lengths so far.
 #[derive(Drop)]
@@ -63,26 +62,6 @@ impl<H: TagHash> Authenticator<H> {
     {
         self.hash.take_in(bytes);
         self.length += bytes.len() as u64;
-    }
-
-    // XORs the next bytes of `stream` into a piece, and hashes its bytes: in the order `MaskFirst` as they are afterwards, and in
-    // the order `HashFirst` as they were before.
-    #[inline(always)]
-    pub(crate) fn update_beside<S: Stream>(
-        &mut self,
-        order: Order,
-        stream: &mut S,
-        piece: &mut [u8],
-    )
-        requires { self.old.length + length piece.old < 2 ^ 64 }
-        ensures holds { (s : Setting) (m : List ℕ) → HoldsAuthenticator H.held self.old s m
-            → length m + length piece.old ≤ text_limit s.suite
-            → HoldsAuthenticator H.held self.new s (m ++ hashed_of order piece.old piece.new) }
-        ensures length { self.new.length ≡ self.old.length + length piece.old }
-        ensures did { S.did stream.old stream.new piece.old piece.new }
-    {
-        self.hash.take_in_beside(order, stream, piece);
-        self.length += piece.len() as u64;
     }
 
     // Returns the hash, of which the tag is made. The authenticator must not be used afterwards.

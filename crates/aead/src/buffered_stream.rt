@@ -1,12 +1,16 @@
 //! A ChaCha20 key stream (RFC 8439, 2.4) with its first blocks precomputed: they were made together with the block that holds
 //! the key of Poly1305.
 
-ghost use Rattle.std.specs.Prelude.{◌≡◌, ◌+◌, ◌%◌, ◌<◌, ◌≤◌, ◌++◌, ℕ, List, [], length, slice_index};
+ghost use Rattle.std.specs.Prelude.{◌≡◌, ◌+◌, ◌%◌, ◌<◌, ◌≤◌, ℕ, List, length, slice_index};
 ghost use Rattle.chacha.specs.Stream.{key_stream_byte};
 
+use crate::hashes::TagHash;
+use crate::interleaved::pays;
 use crate::mask::MaskStream;
-use chacha::{ChaStream, interleaving_pays};
-use octets::{BlockWork, Key32, Nonce, Order, Stream, xor_into};
+use crate::step::MaskWith;
+use chacha::ChaStream;
+use octets::{Key32, Nonce, Stream, xor_into};
+use poly1305::Poly;
 
 // The key stream from counter 1 on: first that of the precomputed blocks, and then that of the blocks after them.
 #[derive(Drop)]
@@ -21,7 +25,9 @@ pub(crate) struct BufferedStream<'a> {
 }
 
 impl<'a> BufferedStream<'a> {
-    ghost use Rattle.octets.specs.Ends.{whole_blocks};
+    ghost use Rattle.aead.specs.Sealing.{Setting};
+    ghost use Rattle.aead.specs.Code.Masks.{Takes};
+    ghost use Rattle.aead.specs.Code.States.{HeldByPoly};
     ghost use Rattle.aead.specs.Code.Buffered.{IsBuffered, DidBuffered};
 
     // No byte is used yet.
@@ -40,17 +46,24 @@ impl<'a> BufferedStream<'a> {
         }
     }
 
-    // XORs the next bytes of the key stream into `bytes`, while `hash` takes in their whole blocks, as they leave.
-    fn apply_then_hash<W: BlockWork>(&mut self, bytes: &mut [u8], hash: &mut W)
-        ensures did { DidBuffered self.old self.new bytes.old bytes.new }
-        ensures hashed { (k m : List ℕ) → W.comes_to hash.old [] k m
-            → W.comes_to hash.new [] k (m ++ whole_blocks bytes.new) }
+    // Masks a piece and hashes it as it leaves, interleaved. This is a separate function, since its frame would slow down short
+    // pieces.
+    #[inline(never)]
+    fn mask_and_hash(&mut self, hash: &mut Poly, piece: &mut [u8])
+        requires { (s : Setting) (m : List ℕ) → HeldByPoly hash.old s m → length m % 16 ≡ 0 }
+        ensures did { DidBuffered self.old self.new piece.old piece.new }
+        ensures takes { Takes HeldByPoly hash.old hash.new piece.new }
     {
-        let n = bytes.len().min(self.start.len() - self.used);
-        let (first, _) = bytes.split_at_mut(n);
+        let n = piece.len().min(self.start.len() - self.used);
+        let (first, _) = piece.split_at_mut(n);
         xor_into(first, &self.start[self.used..self.used + n]);
         self.used += n;
-        self.rest.apply_after(bytes, n, hash);
+        let whole = piece.len() / 16 * 16;
+        let mut partial = hash.partial_sum();
+        self.rest.apply_and_hash(piece, n, &mut partial);
+        let sum = partial.sum;
+        hash.set_sum(sum);
+        hash.update(&piece[whole..]);
     }
 }
 
@@ -67,16 +80,6 @@ impl<'a> Stream for BufferedStream<'a> {
         // Within the limit of a text the key stream does not end.
         let _ = self.rest.apply(last);
     }
-
-    fn apply_beside<W: BlockWork>(&mut self, order: Order, bytes: &mut [u8], hash: &mut W) {
-        match order {
-            Order::MaskFirst => self.apply_then_hash(bytes, hash),
-            Order::HashFirst => {
-                hash.take_all(&bytes[..bytes.len() / 16 * 16]);
-                self.apply_next(bytes);
-            }
-        }
-    }
 }
 
 impl<'a> MaskStream for BufferedStream<'a> {
@@ -84,9 +87,18 @@ impl<'a> MaskStream for BufferedStream<'a> {
 
     ghost made = { MadeByBuffered };
 
-    fn pays_beside_a_hash(&self, length: usize) -> bool {
-        interleaving_pays(self.start.len() - self.used, length)
-    }
-
     ghost masks = { buffered_masks };
+}
+
+// Interleaved with the mask first alone: with the hash first, a whole message is authenticated before a byte is masked.
+impl<'a> MaskWith<Poly> for BufferedStream<'a> {
+    #[inline(always)]
+    fn mask_first(&mut self, hash: &mut Poly, piece: &mut [u8]) {
+        if pays(hash, self.start.len() - self.used, piece.len()) {
+            self.mask_and_hash(hash, piece);
+            return;
+        }
+        self.apply_to(piece);
+        hash.take_in(piece);
+    }
 }

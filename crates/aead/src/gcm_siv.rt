@@ -20,11 +20,11 @@ use crate::aead::Aead;
 use crate::authenticator::Authenticator;
 use crate::derived_keys::DerivedKeys;
 use crate::mask::MaskStream;
-use crate::step::step;
+use crate::step::{Order, step};
 use crate::suite::Suite;
 use aes::{AesKey, CtrLe};
 use gf128::{Keyed128, Polyval, TableMul};
-use octets::{Block, Fault, Nonce, Order, Tag, joined, same, xor_into};
+use octets::{Block, Fault, Nonce, Tag, joined, same, xor_into};
 use std::marker::Model;
 
 /// AES-GCM-SIV under a key of 16 or 32 bytes (RFC 8452). Opening in place decrypts before it can

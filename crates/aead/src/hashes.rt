@@ -3,7 +3,6 @@
 
 ghost use Rattle.std.specs.Prelude.{◌≡◌, ◌<◌, ◌*◌, ◌/◌, ◌++◌, ℕ, List, length, take, drop};
 ghost use Rattle.octets.specs.Bytes.{pad16};
-ghost use Rattle.octets.specs.Ends.{hashed_of};
 ghost use Rattle.gf128.specs.Orders.{Serves};
 ghost use Rattle.aead.specs.Suites.{ByChaCha, construction_of};
 ghost use Rattle.aead.specs.Sealing.{Setting, Fits};
@@ -12,7 +11,7 @@ ghost use Rattle.aead.specs.Code.States.{HeldByPoly, HeldByBlocks, block_key, di
 
 use crate::rule::Rule;
 use gf128::{BlockHash, Multiply};
-use octets::{Block, Order, Stream, joined};
+use octets::{Block, joined};
 use poly1305::Poly;
 use std::marker::PhantomData;
 
@@ -24,25 +23,6 @@ pub(crate) trait TagHash: Drop {
     // Takes in the next bytes.
     fn take_in(&mut self, bytes: &[u8])
         ensures { (s : Setting) (m : List ℕ) → held self.old s m → held self.new s (m ++ bytes.now) };
-
-    // XORs the next bytes of `stream` into a piece, and takes in its bytes: in the order `MaskFirst` as they are afterwards, and in
-    // the order `HashFirst` as they were before.
-    fn take_in_beside<S: Stream>(&mut self, order: Order, stream: &mut S, piece: &mut [u8])
-        ensures held { (s : Setting) (m : List ℕ) → held self.old s m
-            → held self.new s (m ++ hashed_of order piece.old piece.new) }
-        ensures did { S.did stream.old stream.new piece.old piece.new }
-    {
-        match order {
-            Order::MaskFirst => {
-                stream.apply_next(piece);
-                self.take_in(piece);
-            }
-            Order::HashFirst => {
-                self.take_in(piece);
-                stream.apply_next(piece);
-            }
-        }
-    }
 
     // Pads with zeros to whole blocks.
     fn pad(&mut self)
@@ -72,10 +52,6 @@ impl TagHash for Poly {
 
     fn take_in(&mut self, bytes: &[u8]) {
         self.update(bytes);
-    }
-
-    fn take_in_beside<S: Stream>(&mut self, order: Order, stream: &mut S, piece: &mut [u8]) {
-        self.update_beside(order, stream, piece);
     }
 
     fn pad(&mut self) {

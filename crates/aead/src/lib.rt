@@ -29,6 +29,7 @@ mod engine;
 mod gcm;
 mod gcm_siv;
 mod hashes;
+mod interleaved;
 mod mask;
 mod one_pass;
 mod pieces;

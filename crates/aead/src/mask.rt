@@ -10,16 +10,13 @@ ghost use Rattle.aead.specs.Code.States.{MadeByChaCha, MadeByCounter};
 ghost use Rattle.aead.specs.Code.Masks.{Masks, IsMask, chacha_masks, gcm_mask, siv_mask, counter_masks};
 
 use aes::{Count, Ctr, FirstFour, LastFour};
-use chacha::{ChaStream, interleaving_pays};
+use chacha::ChaStream;
 use octets::Stream;
 
 // The mask of a message, made so far up to some byte.
 pub(crate) trait MaskStream: Stream + Drop {
     // The mask is that of a message with this setting and this tag, and this many bytes of it were made.
     ghost made: { Self → Setting → List ℕ → ℕ → Type 0 };
-
-    // Returns whether to hash beside the mask of the next `length` bytes takes less time than to hash after it.
-    fn pays_beside_a_hash(&self, length: usize) -> bool;
 
     // XORs the next bytes of the mask into `piece`.
     fn apply_to(&mut self, piece: &mut [u8])
@@ -37,10 +34,6 @@ pub(crate) trait MaskStream: Stream + Drop {
 // Under ChaCha20-Poly1305 the mask is the key stream from counter 1 on (RFC 8439, 2.8).
 impl MaskStream for ChaStream {
     ghost made = { MadeByChaCha };
-
-    fn pays_beside_a_hash(&self, length: usize) -> bool {
-        interleaving_pays(0, length)
-    }
 
     ghost masks = { chacha_masks };
 }
@@ -70,10 +63,6 @@ impl MaskCount for FirstFour {
 // Under AES-GCM and AES-GCM-SIV the mask is a counter stream.
 impl<'k, C: MaskCount> MaskStream for Ctr<'k, C> {
     ghost made = { MadeByCounter C.by C.up };
-
-    fn pays_beside_a_hash(&self, _length: usize) -> bool {
-        false
-    }
 
     ghost masks = { counter_masks C.by C.up C.is_mask };
 }

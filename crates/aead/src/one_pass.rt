@@ -12,15 +12,15 @@ ghost use Rattle.aead.specs.Code.States.{digest_over};
 use crate::authenticator::Authenticator;
 use crate::hashes::TagHash;
 use crate::mask::MaskStream;
-use crate::step::step;
-use octets::{Block, Fault, Order, Tag, same};
+use crate::step::{MaskWith, Order, step};
+use octets::{Block, Fault, Tag, same};
 
 // A message under a cipher and a nonce: it gives the mask and the hash of what is authenticated, and makes the tag of the hash. The
 // mask does not depend on the tag.
 pub(crate) trait OnePass {
-    type Stream: MaskStream;
-
     type Hash: TagHash;
+
+    type Stream: MaskWith<Self::Hash>;
 
     ghost keyed: { Self → Keyed };
 

@@ -1,6 +1,6 @@
 -- The stages of the stream engines, in terms of the pieces that they have taken in.
 use Rattle.std.specs.Prelude.{◌≡◌, ℕ, ◌+◌, ◌-◌, List, length, replicate}
-use Rattle.octets.specs.declared.work.Order.{Order}
+use Rattle.aead.specs.declared.step.Order.{Order}
 use Rattle.aead.specs.declared.engine.stage.Masking.{Masking}
 use Rattle.aead.specs.declared.engine.stage.Reading.{Reading}
 use Rattle.aead.specs.declared.pieces.keys.MessageKeys.{MessageKeys}

@@ -16,7 +16,8 @@ use crate::engine::passes::pass_all;
 use crate::engine::stage::Masking;
 use crate::pieces::keys::{LentMul, MessageKeys};
 use crate::pieces::pass_state::PassState;
-use octets::{Fault, Intake, Nonce, Order, Outlet, give_all};
+use crate::step::Order;
+use octets::{Fault, Intake, Nonce, Outlet, give_all};
 
 // Seals a stream in one reading, from the keys of a message and the initial state of its pass.
 fn seal_over<I: Intake, O: Outlet>(

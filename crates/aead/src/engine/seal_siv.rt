@@ -17,8 +17,9 @@ use crate::engine::stage::{Masking, Reading};
 use crate::gcm_siv::GcmSiv;
 use crate::pieces::keys::{LentMul, MessageKeys};
 use crate::pieces::pass_state::PassState;
+use crate::step::Order;
 use gf128::{Keyed128, WideMul};
-use octets::{Fault, Intake, Nonce, Order, Outlet, Tag, give_all, same};
+use octets::{Fault, Intake, Nonce, Outlet, Tag, give_all, same};
 
 // Returns whether a second reading has the length and the tag of the first one.
 fn repeats(keys: &MessageKeys, again: &PassState, first_length: u64, tag: &Tag) -> bool

@@ -7,8 +7,8 @@ ghost use Rattle.aead.specs.Code.Maskings.{Task, HoldsMasking, HoldsReading, roo
 
 use crate::pieces::keys::MessageKeys;
 use crate::pieces::pass_state::PassState;
+use crate::step::Order;
 use aes::KnownBlock;
-use octets::Order;
 
 // The stage of a pass, between the reading and the outlet: it takes in each piece, and may mask it before it is given.
 pub(crate) trait Stage {

@@ -18,9 +18,10 @@ use crate::pieces::keys::{AesKeys, ExpandedKey, KeyBytes, LentMul};
 use crate::pieces::pass_state::PassState;
 use crate::pieces::text_parts::PART;
 use crate::rule::Rule;
+use crate::step::Order;
 use aes::{AesKey, Ctr, KnownBlock};
 use gf128::{Keyed128, TableMul, WideMul};
-use octets::{Block, Nonce, Order};
+use octets::{Block, Nonce};
 
 // The initial state for associated data, with a table that is made here, so that only this call has it on its stack.
 #[inline(never)]

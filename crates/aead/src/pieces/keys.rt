@@ -15,11 +15,12 @@ ghost use Rattle.aead.specs.Code.PassSteps.{MasksPiece, MasksPieceKnowing, Takes
 use crate::hashes::PolyKeys;
 use crate::pieces::aes_pass;
 use crate::pieces::pass_state::PassState;
+use crate::step::Order;
 use crate::suite::{Construction, Suite};
 use crate::{chacha_poly, gcm, gcm_siv};
 use aes::{AesKey, KnownBlock};
 use gf128::{GhashOrder, HashOrder, Multiply, PolyvalOrder, TableMul, WideMul};
-use octets::{Block, Key32, Nonce, Order, Tag};
+use octets::{Block, Key32, Nonce, Tag};
 
 // A multiplier by the hash key: the small table, for pieces of any length, or the tables of four powers, for streams.
 #[derive(Drop, Clone, Copy)]

@@ -12,12 +12,11 @@ ghost use Rattle.aead.specs.Code.States.{HoldsAuthenticator, digest_over};
 
 use crate::authenticator::Authenticator;
 use crate::hashes::{HashKeys, TagHash, first_block, last_block};
-use crate::mask::MaskStream;
 use crate::pieces::keys::MessageKeys;
 use crate::pieces::text_parts::take_text;
-use crate::step::step;
+use crate::step::{MaskWith, Order, step};
 use aes::KnownBlock;
-use octets::{Block, Fault, Order, Tag};
+use octets::{Block, Fault, Tag};
 
 // 2^64.
 const WORD: u128 = 0x1_0000_0000_0000_0000;
@@ -189,7 +188,7 @@ impl PassState {
 
     // Masks a piece and authenticates it. The mask stands where the piece begins.
     #[inline(never)]
-    pub(crate) fn step<K: HashKeys, S: MaskStream>(
+    pub(crate) fn step<K: HashKeys, S: MaskWith<K::Hash>>(
         &mut self,
         keys: &K,
         mask: &mut S,
@@ -227,7 +226,7 @@ impl PassState {
 
     // Authenticates the text of a piece of a ciphertext. The mask stands where the piece begins.
     #[inline(never)]
-    pub(crate) fn take_text<K: HashKeys, S: MaskStream>(
+    pub(crate) fn take_text<K: HashKeys, S: MaskWith<K::Hash>>(
         &mut self,
         keys: &K,
         mask: &mut S,

@@ -6,16 +6,14 @@ ghost use Rattle.aead.specs.Code.Masks.{TakesText};
 
 use crate::authenticator::Authenticator;
 use crate::hashes::TagHash;
-use crate::mask::MaskStream;
-use crate::step::step;
-use octets::Order;
+use crate::step::{MaskWith, Order, step};
 
 // The length of the buffer in bytes. It is on the stack with the planes and the tables that serve all parts, and the header for C says
 // how much stack a call takes at most.
 pub(crate) const PART: usize = 1024;
 
 // Authenticates the text of a part of a ciphertext.
-fn take_part<S: MaskStream, H: TagHash>(
+fn take_part<S: MaskWith<H>, H: TagHash>(
     mask: &mut S,
     authenticator: &mut Authenticator<H>,
     part: &[u8],
@@ -32,7 +30,7 @@ fn take_part<S: MaskStream, H: TagHash>(
 }
 
 // Authenticates the text of a piece of a ciphertext.
-pub(crate) fn take_text<S: MaskStream, H: TagHash>(
+pub(crate) fn take_text<S: MaskWith<H>, H: TagHash>(
     mask: &mut S,
     authenticator: &mut Authenticator<H>,
     piece: &[u8],

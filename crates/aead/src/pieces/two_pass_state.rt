@@ -11,8 +11,9 @@ ghost use Rattle.aead.specs.PassStates.{HoldsNumbers, IsStart};
 
 use crate::pieces::keys::MessageKeys;
 use crate::pieces::pass_state::{PassState, SumWords};
+use crate::step::Order;
 use aes::KnownBlock;
-use octets::{Fault, Order, Tag, same};
+use octets::{Fault, Tag, same};
 
 /// The state of a sealing in two readings under AES-GCM-SIV, or of an opening in two passes under any suite, as plain numbers,
 /// without the message's key and nonce. Each number may have any value.

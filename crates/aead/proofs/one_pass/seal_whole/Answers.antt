@@ -1,7 +1,7 @@
 use Rattle.std.proofs.Common.{ℕ, List, [], sym, subst, refl, arith}
 use Rattle.aead.specs.Sealing.{Setting, Fits, mask_of}
 use Rattle.aead.specs.Ciphers.{setting}
-use Rattle.octets.specs.declared.work.Order.TheVariants.{MaskFirst}
+use Rattle.aead.specs.declared.step.Order.TheVariants.{MaskFirst}
 use Rattle.aead.specs.Code.States.{HoldsAuthenticator}
 use Rattle.aead.specs.Code.Masks.{none_hashed}
 use Rattle.aead.proofs.Opens.{seals_one_pass}

@@ -1,12 +1,15 @@
-use Rattle.aead.proofs.Maskings.{mask_first, in_order}
+use Rattle.std.proofs.Common.{◌+◌, refl, ap}
+use Rattle.aead.proofs.Maskings.{mask_first, hash_first}
 use Rattle.aead.proofs.step.step.Goals as goal
-
-pub returns-then-pays_beside_a_hash-clause-step : goal.returns-then-pays_beside_a_hash-clause-step
-returns-then-pays_beside_a_hash-clause-step g c =
-    in_order g.S.MaskStream.made g.H.TagHash.held c.args.order _ _ _ _ _ _ c.step_beside.ensures.masks
-    c.step_beside.ensures.takes
 
 pub returns-in-MaskFirst-clause-step : goal.returns-in-MaskFirst-clause-step
 returns-in-MaskFirst-clause-step g c =
     rw c.in-MaskFirst.is
-    (mask_first g.S.MaskStream.made g.H.TagHash.held _ _ _ _ _ _ c.apply_to.ensures c.update.ensures.holds)
+    (mask_first g.S.MaskStream.made g.H.TagHash.held _ _ c.args.authenticator.now _ _ _ c.mask_first.ensures.masks
+    c.mask_first.ensures.takes refl refl)
+
+pub returns-in-HashFirst-clause-step : goal.returns-in-HashFirst-clause-step
+returns-in-HashFirst-clause-step g c =
+    rw c.in-HashFirst.is
+    (hash_first g.S.MaskStream.made g.H.TagHash.held _ _ c.args.authenticator.now _ _ _ c.hash_first.ensures.masks
+    c.hash_first.ensures.takes refl (ap (λ n. c.args.authenticator.now.length + n) c.hash_first.auto.piece))

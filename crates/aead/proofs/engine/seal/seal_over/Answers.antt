@@ -2,7 +2,7 @@ use Rattle.std.proofs.Common.{◌≡◌, ℕ, List, length, take, refl, ap, arit
 use Rattle.std.proofs.lemmas.List.{take_all}
 use Rattle.std.specs.Io.KnownBytes.{Appends}
 use Rattle.octets.specs.Device.{Failed}
-use Rattle.octets.specs.declared.work.Order.TheVariants.{MaskFirst}
+use Rattle.aead.specs.declared.step.Order.TheVariants.{MaskFirst}
 use Rattle.aead.specs.Suites.{text_limit, text_limit_by}
 use Rattle.aead.specs.Code.Maskings.{message_task, no_tag}
 use Rattle.aead.proofs.Maskings.{none_fed}

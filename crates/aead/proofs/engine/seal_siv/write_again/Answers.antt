@@ -3,7 +3,7 @@ use Rattle.std.proofs.Common.{None, Option, true≢false}
 use Rattle.std.proofs.lemmas.List.{take_all}
 use Rattle.std.specs.Io.KnownBytes.{Appends}
 use Rattle.octets.specs.Device.{Failed}
-use Rattle.octets.specs.declared.work.Order.TheVariants.{HashFirst}
+use Rattle.aead.specs.declared.step.Order.TheVariants.{HashFirst}
 use Rattle.aead.specs.Sealing.{mask_of, tag_of}
 use Rattle.aead.specs.Code.Maskings.{HoldsMasking, message_task}
 use Rattle.aead.specs.Code.Passes.{Stopped}

@@ -8,7 +8,7 @@ use Rattle.gf128.specs.Code.States.{key_of}
 use Rattle.aead.specs.Suites.{is_one_pass, text_limit}
 use Rattle.aead.specs.Sealing.{Setting, Fits, authentication_key, mask_of, tag_of}
 use Rattle.aead.specs.Ciphers.{setting}
-use Rattle.octets.specs.declared.work.Order.TheVariants.{MaskFirst}
+use Rattle.aead.specs.declared.step.Order.TheVariants.{MaskFirst}
 use Rattle.aead.specs.Suites.{ByGcmSiv}
 use Rattle.aead.specs.Code.States.{HoldsAuthenticator, HeldByBlocks}
 use Rattle.aead.specs.Code.Masks.{none_hashed}
