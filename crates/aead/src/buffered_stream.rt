@@ -1,10 +1,10 @@
 //! A ChaCha20 key stream (RFC 8439, 2.4) with its first blocks precomputed: they were made together with the block that holds
 //! the key of Poly1305.
 
-ghost use Rattle.std.specs.Prelude.{◌≡◌, ◌+◌, ◌%◌, ◌<◌, ◌≤◌, ◌++◌, ℕ, List, length, slice_index};
+ghost use Rattle.std.specs.Prelude.{◌≡◌, ◌+◌, ◌%◌, ◌<◌, ◌≤◌, ℕ, List, length, slice_index};
 ghost use Rattle.chacha.specs.Stream.{key_stream_byte};
 
-use crate::authenticator::Authenticator;
+use crate::hashes::TagHash;
 use crate::interleaved::pays;
 use crate::mask::MaskStream;
 use crate::step::MaskWith;
@@ -26,6 +26,7 @@ pub(crate) struct BufferedStream<'a> {
 
 impl<'a> BufferedStream<'a> {
     ghost use Rattle.aead.specs.Sealing.{Setting};
+    ghost use Rattle.aead.specs.Code.Masks.{Takes};
     ghost use Rattle.aead.specs.Code.States.{HeldByPoly};
     ghost use Rattle.aead.specs.Code.Buffered.{IsBuffered, DidBuffered};
 
@@ -51,8 +52,7 @@ impl<'a> BufferedStream<'a> {
     fn mask_and_hash(&mut self, hash: &mut Poly, piece: &mut [u8])
         requires { (s : Setting) (m : List ℕ) → HeldByPoly hash.old s m → length m % 16 ≡ 0 }
         ensures did { DidBuffered self.old self.new piece.old piece.new }
-        ensures held { (s : Setting) (m : List ℕ) → HeldByPoly hash.old s m
-            → HeldByPoly hash.new s (m ++ piece.new) }
+        ensures takes { Takes HeldByPoly hash.old hash.new piece.new }
     {
         let n = piece.len().min(self.start.len() - self.used);
         let (first, _) = piece.split_at_mut(n);
@@ -93,17 +93,12 @@ impl<'a> MaskStream for BufferedStream<'a> {
 // Interleaved with the mask first alone: with the hash first, a whole message is authenticated before a byte is masked.
 impl<'a> MaskWith<Poly> for BufferedStream<'a> {
     #[inline(always)]
-    fn mask_first(&mut self, authenticator: &mut Authenticator<Poly>, piece: &mut [u8]) {
-        if pays(
-            &authenticator.hash,
-            self.start.len() - self.used,
-            piece.len(),
-        ) {
-            self.mask_and_hash(&mut authenticator.hash, piece);
-            authenticator.length += piece.len() as u64;
+    fn mask_first(&mut self, hash: &mut Poly, piece: &mut [u8]) {
+        if pays(hash, self.start.len() - self.used, piece.len()) {
+            self.mask_and_hash(hash, piece);
             return;
         }
         self.apply_to(piece);
-        authenticator.update(piece);
+        hash.take_in(piece);
     }
 }

@@ -1,11 +1,11 @@
 //! ChaCha20 and Poly1305 interleaved: a piece is masked while it is hashed, in one loop (RFC 8439, 2.8).
 
-ghost use Rattle.std.specs.Prelude.{◌≡◌, ℕ, ◌%◌, ◌++◌, List, length, true};
+ghost use Rattle.std.specs.Prelude.{◌≡◌, ℕ, ◌%◌, List, length, true};
 ghost use Rattle.aead.specs.Sealing.{Setting};
-ghost use Rattle.aead.specs.Code.Masks.{Masks};
+ghost use Rattle.aead.specs.Code.Masks.{Masks, Takes};
 ghost use Rattle.aead.specs.Code.States.{HeldByPoly, MadeByChaCha};
 
-use crate::authenticator::Authenticator;
+use crate::hashes::TagHash;
 use crate::mask::MaskStream;
 use crate::step::MaskWith;
 use chacha::{ChaStream, interleaving_pays};
@@ -27,7 +27,7 @@ pub(crate) fn pays(hash: &Poly, ready: usize, count: usize) -> bool
 fn mask_and_hash(mask: &mut ChaStream, hash: &mut Poly, piece: &mut [u8])
     requires { (s : Setting) (m : List ℕ) → HeldByPoly hash.old s m → length m % 16 ≡ 0 }
     ensures masks { Masks MadeByChaCha mask.old mask.new piece.old piece.new }
-    ensures held { (s : Setting) (m : List ℕ) → HeldByPoly hash.old s m → HeldByPoly hash.new s (m ++ piece.new) }
+    ensures takes { Takes HeldByPoly hash.old hash.new piece.new }
 {
     let whole = piece.len() / 16 * 16;
     let mut partial = hash.partial_sum();
@@ -42,7 +42,7 @@ fn mask_and_hash(mask: &mut ChaStream, hash: &mut Poly, piece: &mut [u8])
 fn hash_and_mask(mask: &mut ChaStream, hash: &mut Poly, piece: &mut [u8])
     requires { (s : Setting) (m : List ℕ) → HeldByPoly hash.old s m → length m % 16 ≡ 0 }
     ensures masks { Masks MadeByChaCha mask.old mask.new piece.old piece.new }
-    ensures held { (s : Setting) (m : List ℕ) → HeldByPoly hash.old s m → HeldByPoly hash.new s (m ++ piece.old) }
+    ensures takes { Takes HeldByPoly hash.old hash.new piece.old }
 {
     let whole = piece.len() / 16 * 16;
     let rest = padded(&piece[whole..]);
@@ -55,24 +55,22 @@ fn hash_and_mask(mask: &mut ChaStream, hash: &mut Poly, piece: &mut [u8])
 
 impl MaskWith<Poly> for ChaStream {
     #[inline(always)]
-    fn mask_first(&mut self, authenticator: &mut Authenticator<Poly>, piece: &mut [u8]) {
-        if pays(&authenticator.hash, 0, piece.len()) {
-            mask_and_hash(self, &mut authenticator.hash, piece);
-            authenticator.length += piece.len() as u64;
+    fn mask_first(&mut self, hash: &mut Poly, piece: &mut [u8]) {
+        if pays(hash, 0, piece.len()) {
+            mask_and_hash(self, hash, piece);
             return;
         }
         self.apply_to(piece);
-        authenticator.update(piece);
+        hash.take_in(piece);
     }
 
     #[inline(always)]
-    fn hash_first(&mut self, authenticator: &mut Authenticator<Poly>, piece: &mut [u8]) {
-        if pays(&authenticator.hash, 0, piece.len()) {
-            hash_and_mask(self, &mut authenticator.hash, piece);
-            authenticator.length += piece.len() as u64;
+    fn hash_first(&mut self, hash: &mut Poly, piece: &mut [u8]) {
+        if pays(hash, 0, piece.len()) {
+            hash_and_mask(self, hash, piece);
             return;
         }
-        authenticator.update(piece);
+        hash.take_in(piece);
         self.apply_to(piece);
     }
 }

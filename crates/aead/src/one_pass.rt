@@ -86,7 +86,12 @@ pub(crate) fn open_whole<N: OnePass>(
 }
 
 // Decrypts a ciphertext in place while it is authenticated. On error the bytes are what the ciphertext would open to.
-fn open_beside<N: OnePass>(message: &N, aad: &[u8], body: &mut [u8], tag: &Tag) -> Result<(), Fault>
+fn decrypt_and_authenticate<N: OnePass>(
+    message: &N,
+    aad: &[u8],
+    body: &mut [u8],
+    tag: &Tag,
+) -> Result<(), Fault>
     requires aad_fits { length aad.now ≤ aad_limit (N.keyed message.now).suite }
     requires text_fits { length body.old ≤ text_limit (N.keyed message.now).suite }
     ensures opened { let s = setting (N.keyed message.now) (N.nonce message.now) aad.now in
@@ -119,7 +124,7 @@ pub(crate) fn open_and_restore<N: OnePass>(
     ensures { OpensInPlace (setting (N.keyed message.now) (N.nonce message.now) aad.now) tag.now body.old
         body.new result }
 {
-    match open_beside(message, aad, body, tag) {
+    match decrypt_and_authenticate(message, aad, body, tag) {
         Ok(()) => Ok(()),
         Err(fault) => {
             message.mask().apply_to(body);

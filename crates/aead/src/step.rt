@@ -23,27 +23,23 @@ pub(crate) enum Order {
 // A mask with the hash of its construction. By default one goes over a piece after the other; those that are interleaved where this
 // takes less time say so.
 pub(crate) trait MaskWith<H: TagHash>: MaskStream {
-    // Masks a piece, and authenticates it as it leaves.
+    // Masks a piece, and hashes it as it leaves.
     #[inline(always)]
-    fn mask_first(&mut self, authenticator: &mut Authenticator<H>, piece: &mut [u8])
-        requires { authenticator.old.length + length piece.old < 2 ^ 64 }
+    fn mask_first(&mut self, hash: &mut H, piece: &mut [u8])
         ensures masks { Masks Self.made self.old self.new piece.old piece.new }
-        ensures takes { Takes H.held authenticator.old authenticator.new piece.new }
-        ensures length { authenticator.new.length ≡ authenticator.old.length + length piece.old }
+        ensures takes { Takes H.held hash.old hash.new piece.new }
     {
         self.apply_to(piece);
-        authenticator.update(piece);
+        hash.take_in(piece);
     }
 
-    // Authenticates a piece as it comes, and masks it.
+    // Hashes a piece as it comes, and masks it.
     #[inline(always)]
-    fn hash_first(&mut self, authenticator: &mut Authenticator<H>, piece: &mut [u8])
-        requires { authenticator.old.length + length piece.old < 2 ^ 64 }
+    fn hash_first(&mut self, hash: &mut H, piece: &mut [u8])
         ensures masks { Masks Self.made self.old self.new piece.old piece.new }
-        ensures takes { Takes H.held authenticator.old authenticator.new piece.old }
-        ensures length { authenticator.new.length ≡ authenticator.old.length + length piece.old }
+        ensures takes { Takes H.held hash.old hash.new piece.old }
     {
-        authenticator.update(piece);
+        hash.take_in(piece);
         self.apply_to(piece);
     }
 }
@@ -65,7 +61,13 @@ pub(crate) fn step<S: MaskWith<H>, H: TagHash>(
     ensures length { authenticator.new.length ≡ authenticator.old.length + length piece.old }
 {
     match order {
-        Order::MaskFirst => mask.mask_first(authenticator, piece),
-        Order::HashFirst => mask.hash_first(authenticator, piece),
+        Order::MaskFirst => {
+            mask.mask_first(&mut authenticator.hash, piece);
+            authenticator.length += piece.len() as u64;
+        }
+        Order::HashFirst => {
+            mask.hash_first(&mut authenticator.hash, piece);
+            authenticator.length += piece.len() as u64;
+        }
     }
 }

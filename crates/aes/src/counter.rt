@@ -724,7 +724,6 @@ impl<'k, C: Count> Ctr<'k, C> {
     }
 }
 
-/// Nothing runs beside the stream: its rounds leave no room.
 impl<'k, C: Count> Stream for Ctr<'k, C> {
     ghost use Rattle.aes.specs.Code.Streams.{Did};
 

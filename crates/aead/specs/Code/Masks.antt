@@ -23,12 +23,9 @@ Masks made a b was now =
     (s : Setting) (tag : List ℕ) (n : ℕ) → made a s tag n → n + length was ≤ text_limit s.suite
     → made b s tag (n + length was) × (now ≡ masked (mask_of s tag) n was)
 
--- a becomes b: it takes in these bytes, within the limit of a text
-abbrev pub Takes : {H : Type 0} (held : H → Setting → List ℕ → Type 0) (a b : Authenticator H) (bytes : List ℕ)
-    → Type 0
-Takes held a b bytes =
-    (s : Setting) (m : List ℕ) → HoldsAuthenticator held a s m → length m + length bytes ≤ text_limit s.suite
-    → HoldsAuthenticator held b s (m ++ bytes)
+-- the hash a becomes b: it takes in these bytes
+abbrev pub Takes : {H : Type 0} (held : H → Setting → List ℕ → Type 0) (a b : H) (bytes : List ℕ) → Type 0
+Takes held a b bytes = (s : Setting) (m : List ℕ) → held a s m → held b s (m ++ bytes)
 
 -- the bytes authenticated if pieces are hashed first: the pieces as they come in
 abbrev pub as_it_comes : (ℕ → ℕ) → List ℕ → List ℕ

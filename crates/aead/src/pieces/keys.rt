@@ -218,7 +218,7 @@ impl<'a> MessageKeys<'a> {
                 let nonce = Nonce::new(self.nonce);
                 aes_pass::take_text::<PolyvalOrder>(state, keys, &nonce, tag, piece);
             }
-            _ => self.take(state, piece),
+            CipherKeys::ChaCha(_) | CipherKeys::Gcm(_) => self.take(state, piece),
         }
     }
 
@@ -230,7 +230,7 @@ impl<'a> MessageKeys<'a> {
     {
         match self.construction() {
             Construction::GcmSiv => Order::MaskFirst,
-            _ => Order::HashFirst,
+            Construction::ChaChaPoly | Construction::Gcm => Order::HashFirst,
         }
     }
 

@@ -42,7 +42,7 @@ pub record Holds {C : Type 0} (up : List ℕ → ℕ → List ℕ) (s : Ctr C) (
   pub key_is : s.key.now ≡ key
   pub makes : Makes up s.counter key first position
 
--- s becomes t, and was becomes now: the next bytes of the stream that counts with `up` are XORed in, beside other work
+-- s becomes t, and was becomes now: the next bytes of the stream that counts with `up` are XORed in
 abbrev pub Did : {C : Type 0} → (List ℕ → ℕ → List ℕ) → Ctr C → Ctr C → List ℕ → List ℕ → Type 0
 Did up s t was now = (key first : List ℕ) (position : ℕ) → Holds up s key first position
     → Holds up t key first (position + length was) × (now ≡ masked (counter_byte up key first) position was)

@@ -10,8 +10,8 @@ use Rattle.aead.proofs.interleaved.hash_and_mask.Goals as goal
 pub returns-clause-masks : goal.returns-clause-masks
 returns-clause-masks c = chacha_masks c.args.mask.now _ c.args.piece.now _ c.hash_and_apply.ensures.did
 
-pub returns-clause-held : goal.returns-clause-held
-returns-clause-held c = λ s m h.
+pub returns-clause-takes : goal.returns-clause-takes
+returns-clause-takes c = λ s m h.
     let k = poly_key s.key s.nonce in
     let x : List ℕ = c.args.piece.now in
     let n : ℕ = length x / 16 * 16 in

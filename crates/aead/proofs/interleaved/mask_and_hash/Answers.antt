@@ -8,8 +8,8 @@ use Rattle.aead.proofs.interleaved.mask_and_hash.Goals as goal
 pub returns-clause-masks : goal.returns-clause-masks
 returns-clause-masks c = chacha_masks c.args.mask.now _ c.args.piece.now _ c.apply_and_hash.ensures.did
 
-pub returns-clause-held : goal.returns-clause-held
-returns-clause-held c = λ s m h.
+pub returns-clause-takes : goal.returns-clause-takes
+returns-clause-takes c = λ s m h.
     let k = poly_key s.key s.nonce in
     let x : List ℕ = c.apply_and_hash.new.bytes in
     let blocks = c.apply_and_hash.ensures.hashed k m (c.partial_sum-partial.ensures k m h.1 (c.requires s m h)) in

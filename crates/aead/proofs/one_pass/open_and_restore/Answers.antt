@@ -12,7 +12,7 @@ returns-in-Err g c =
     let tag = c.args.tag.now in
     let body = c.args.body.now in
     let f = mask_of s tag in
-    let size : length c.open_beside.new.body ≡ length body = c.open_beside.auto.body in (
+    let size : length c.decrypt_and_authenticate.new.body ≡ length body = c.decrypt_and_authenticate.auto.body in (
       c.in-Err.ensures.opened,
       (c.apply_to.ensures s tag 0 (c.mask.ensures c.args.aad.now tag) (omega (arith, size, c.requires.text_fits))).1
           ∙ ap (masked f 0) c.in-Err.ensures.masked ∙ masked_twice f 0 body,

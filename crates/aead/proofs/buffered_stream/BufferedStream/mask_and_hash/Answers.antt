@@ -50,8 +50,8 @@ returns-clause-did c = λ s tag n h room.
           ∙ sym (ap (λ f. masked f n was) (chacha_mask s tag h.0)),
     )
 
-pub returns-clause-held : goal.returns-clause-held
-returns-clause-held c = λ s m h.
+pub returns-clause-takes : goal.returns-clause-takes
+returns-clause-takes c = λ s m h.
     let k = poly_key s.key s.nonce in
     let x : List ℕ = c.apply_and_hash.new.bytes in
     let blocks = c.apply_and_hash.ensures.hashed k m (c.partial_sum-partial.ensures k m h.1 (c.requires s m h)) in

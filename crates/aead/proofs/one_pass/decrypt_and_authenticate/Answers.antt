@@ -2,7 +2,7 @@ use Rattle.std.proofs.Common.{◌∙◌, [], sym, refl, arith, true≢false}
 use Rattle.aead.specs.Sealing.{Setting, Fits}
 use Rattle.aead.specs.Ciphers.{setting}
 use Rattle.aead.proofs.Opens.{no_sealing, opened_as, body_tag}
-use Rattle.aead.proofs.one_pass.open_beside.Goals as goal
+use Rattle.aead.proofs.one_pass.decrypt_and_authenticate.Goals as goal
 
 pub returns-then-same-clause-opened : goal.returns-then-same-clause-opened
 returns-then-same-clause-opened g c =
