@@ -9,10 +9,6 @@ use octets::WIDE;
 // into the registers, else four. With AVX2, eight in place of four are 1.5 times as fast.
 const RUN: usize = if WIDE { 512 } else { 256 };
 
-// With key stream for this many bytes made already, the first run is interleaved with enough steps of a hash. With AVX2 the four
-// blocks before a run have as many for the text.
-const READY: usize = if WIDE { 192 } else { 128 };
-
 /// Returns whether bytes begin with a run, in a build where a run is eight blocks. `skip` is their offset in the first block: a
 /// run begins with its first byte.
 #[inline(always)]
@@ -30,23 +26,23 @@ pub(crate) fn has_run_of_four(skip: usize, length: usize) -> bool
     !WIDE && skip == 0 && length >= 256
 }
 
-/// The length in bytes of one block, which one set of rows makes in 311 cycles, with AVX2 in 296; two blocks take 437 and 341.
+/// The length in bytes of one block. More key stream than this is made two blocks at once by rows: 411 cycles in place of twice
+/// 296, with AVX2 300.
 pub(crate) const ONE_AT_MOST: usize = 64;
 
-/// The length in bytes of two blocks. More key stream than this is made three blocks at once by rows in 555 cycles, with AVX2 four
-/// in two pairs in 429.
+/// The length in bytes of two blocks. More key stream than this is made three blocks at once by rows, in 557 cycles, with AVX2 four in
+/// two pairs, in 415.
 pub(crate) const TWO_AT_MOST: usize = 128;
 
-/// The length in bytes of three blocks. More key stream than this is made, without AVX2, four blocks at once in lanes, in 655
-/// cycles.
+/// The length in bytes of three blocks. Without AVX2, more key stream than this is made four blocks at once in lanes, in 690 cycles.
 pub(crate) const THREE_AT_MOST: usize = 192;
 
-/// The length in bytes of four blocks. More key stream than this is made, with AVX2, six blocks at once in three pairs, in 557
-/// cycles; without, five: one by rows in the idle slots of four in lanes.
+/// The length in bytes of four blocks. More key stream than this is made five blocks at once, one by rows in the idle slots of four in
+/// lanes, in 742 cycles, with AVX2 six in three pairs, in 600.
 pub(crate) const FOUR_AT_MOST: usize = 256;
 
-/// The length in bytes of six blocks. More key stream than this is made, with AVX2, eight blocks at once in lanes, in 682 cycles. The
-/// first half is masked in place, and only the other half by way of a buffer.
+/// The length in bytes of six blocks. With AVX2, more key stream than this is made eight blocks at once in lanes, in 690 cycles: if the
+/// bytes begin a block, the first half is masked in place, and only the other half by way of a buffer.
 pub(crate) const SIX_AT_MOST: usize = 384;
 
 /// The length in bytes of the longest text that the blocks with the counters 1 to 7 mask. Up to this length an opening hashes the
@@ -73,13 +69,10 @@ pub enum BlocksAtOnce {
 }
 
 impl BlocksAtOnce {
-    /// Returns how many blocks are computed at once for a text of `length` bytes that is masked from counter 1 on. The later
-    /// blocks are computed four or eight at a time, and the number is such that few of the last ones are in vain: the first block
-    /// has the key of Poly1305, the others take the text up to what fills the runs after them.
-    ///
-    /// In cycles with AVX2, two blocks take 341, four 429, six 557, eight 682 and nine 881: up to 256 bytes a sealing became 1.24 to
-    /// 1.33 times as fast as with four and eight in lanes. Without AVX2, two blocks take 437, three 555, four 655 and five 870: from
-    /// 65 to 128 bytes a sealing became 1.07 times as fast.
+    /// Returns how many blocks are computed at once for a text of `length` bytes that is masked from counter 1 on. The block of
+    /// counter 0 is not for the text, and the others mask what runs of eight, or without AVX2 of four, do not fill. Nine blocks take
+    /// 755 cycles, the others as the constants above say. With AVX2, pairs in place of lanes made sealing up to 64 bytes 1.23 times as
+    /// fast, up to 192 bytes 1.2, up to 320 bytes 1.07, and from 513 to 960 bytes 1.05 to 1.3.
     pub fn for_text(length: usize) -> BlocksAtOnce {
         if WIDE {
             return match length.max(1) % 512 {
@@ -101,7 +94,8 @@ impl BlocksAtOnce {
 
 /// Returns whether interleaving a hash with the mask of a text of `length` bytes takes less time than hashing after it. The key
 /// stream for the first `ready` bytes is made already. A run is interleaved with the hash of what is masked before it: if that is
-/// little, the first run has little to be interleaved with, and a second one has to follow. Sealing 1 KiB became 1.2 times as fast.
+/// less than half a run, the first run has little to be interleaved with, and a second one has to follow. Sealing 1 KiB became
+/// 1.2 times as fast.
 pub fn interleaving_pays(ready: usize, length: usize) -> bool {
-    length > ready && (ready >= READY || length - ready > RUN)
+    length > ready && (ready >= RUN / 2 || length - ready > RUN)
 }

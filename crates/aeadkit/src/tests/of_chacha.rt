@@ -116,10 +116,14 @@ fn pieces_of_each_size(rt: HostRuntime) {
 }
 
 // A block near the last one, how many bytes are encrypted from there, and the size of the pieces.
-const LAST: [(u32, usize, usize); 5] = [
+const LAST: [(u32, usize, usize); 9] = [
     (u32::MAX, 64, 64),
     (u32::MAX, 64, 63),
+    (u32::MAX - 1, 128, 128),
     (u32::MAX - 2, 192, 192),
+    (u32::MAX - 3, 256, 255),
+    (u32::MAX - 4, 320, 320),
+    (u32::MAX - 5, 384, 383),
     (u32::MAX - 6, 448, 448),
     (u32::MAX - 7, 512, 512),
 ];
