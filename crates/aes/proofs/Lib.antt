@@ -32,3 +32,4 @@ mod Nibbles
 mod SixteenBlocks
 mod KeyPlanes
 mod Loads
+mod FirstRounds

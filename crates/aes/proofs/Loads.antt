@@ -15,7 +15,7 @@ use Rattle.aes.proofs.Tested.{all_below, all_below_at}
 use Rattle.aes.proofs.FourBlocks.{lane_fits, same_lanes}
 
 -- a vector whose lanes are picked from two vectors at places has the lanes of those places
-picked_two : (x y ps : List ℕ) (f : ℕ → ℕ) (n m l : ℕ) → length x ≡ n → length y ≡ n → length ps ≡ m → l < m
+pub picked_two : (x y ps : List ℕ) (f : ℕ → ℕ) (n m l : ℕ) → length x ≡ n → length y ≡ n → length ps ≡ m → l < m
     → all_below (λ i. (get_or ps i 0 == f i) && ltb (get_or ps i 0) (n + n)) m ≡ true
     → get_or (map (λ p. get_or (x ++ y) p 0) ps) l 0 ≡ get_or (x ++ y) (f l) 0
 picked_two x y ps f n m l hx hy hp h test =

@@ -1,4 +1,4 @@
--- The low half of the least significant byte of a counter.
+-- The least significant byte of a counter, and its low half.
 use Rattle.std.proofs.Common.{◌≡◌, ℕ, zero, suc, ◌+◌, ◌-◌, ◌*◌, ◌/◌, ◌%◌, ◌^◌, ◌<◌}
 use Rattle.std.proofs.Common.{Bool, true, false, cond, ◌==◌, List, []}
 use Rattle.std.proofs.Common.{◌∷◌, ◌++◌, length, take, drop, get_or, bit_xor, refl, sym, ap, ap₂, ◌∙◌, arith, inl, inr}
@@ -10,7 +10,8 @@ use Rattle.std.proofs.lemmas.List.{get_or-drop, take_all, take_more}
 use Rattle.octets.specs.Bytes.{le, be}
 use Rattle.octets.proofs.Numbers.{be_push}
 use Rattle.aes.specs.Counters.{up_be, up_le}
-use Rattle.aes.specs.Code.Nibbles.{CountsInNibble}
+use Rattle.octets.specs.Bytes.{IsBlock}
+use Rattle.aes.specs.Code.Nibbles.{CountsInByte, CountsInNibble}
 use Rattle.aes.proofs.Tested.{all_below, all_below_at}
 use Rattle.aes.proofs.Counting.{small_take}
 
@@ -30,9 +31,22 @@ nibble_sum v s hv hm hs =
     ∙ ap (λ (w : ℕ). bit_xor w s) whole
 
 -- a byte at another place stays as it is
-unlike : (b : Bool) (u s : ℕ) → ◌≡◌ {A = ℕ} (cond b 1 0) 0 → u ≡ bit_xor u (cond b s 0)
+unlike : (b : Bool) (u s : ℕ) → ◌≡◌ {A = ℕ} (cond b 1 0) 0 → u ≡ u + cond b s 0
 unlike true u s h = absurd (omega (arith, h))
-unlike false u s h = sym (xor_zero_r u)
+unlike false u s h = omega arith
+
+-- adding s or 0 is XORing it, where s goes into a multiple of 16
+nibble_or : (b : Bool) (v s : ℕ) → v < 256 → (b ≡ true → v % 16 ≡ 0) → s < 16 → v + cond b s 0 ≡ bit_xor v (cond b s 0)
+nibble_or true v s hv none hs = nibble_sum v s hv (none refl) hs
+nibble_or false v s hv none hs = let same : v + 0 ≡ v = omega arith in same ∙ sym (xor_zero_r v)
+
+-- a counter that counts in a byte counts in its low half
+in_nibble : (up : List ℕ → ℕ → List ℕ) (place : ℕ) → CountsInByte up place → (b : List ℕ) (j s i : ℕ) → IsBlock b → get_or (up b j) place 0 % 16 ≡ 0 → s < 16 → i < 16
+    → get_or (up b (j + s)) i 0 ≡ bit_xor (get_or (up b j) i 0) (cond (i == place) s 0)
+in_nibble up place counts b j s i block none hs hi =
+    counts.near b j s i block (omega (arith, none, hs, (counts.blocks b j block).bytes place)) hi
+    ∙ nibble_or (i == place) (get_or (up b j) i 0) s ((counts.blocks b j block).bytes i)
+    (λ e. ap (λ (p : ℕ). get_or (up b j) p 0 % 16) (eqb-true i place e) ∙ none) hs
 
 -- if the items of two lists are below 256, so are those of both joined
 small_append : (xs ys : List ℕ) → ((i : ℕ) → get_or xs i 0 < 256) → ((i : ℕ) → get_or ys i 0 < 256)
@@ -54,17 +68,13 @@ bytes_be n (suc (suc zero)) = omega arith
 bytes_be n (suc (suc (suc zero))) = omega arith
 bytes_be n (suc (suc (suc (suc t)))) = omega arith
 
-four_be : (n s t : ℕ) → n % 256 % 16 ≡ 0 → s < 16 → t < 4
-    → get_or (bytes_high_first 4 (n + s)) t 0 ≡ bit_xor (get_or (bytes_high_first 4 n) t 0) (cond (12 + t == 15) s 0)
-four_be n s zero hn hs ht =
-    let e : (n + s) / 16777216 % 256 ≡ n / 16777216 % 256 = omega arith in e ∙ sym (xor_zero_r (n / 16777216 % 256))
-four_be n s (suc zero) hn hs ht =
-    let e : (n + s) / 65536 % 256 ≡ n / 65536 % 256 = omega arith in e ∙ sym (xor_zero_r (n / 65536 % 256))
-four_be n s (suc (suc zero)) hn hs ht =
-    let e : (n + s) / 256 % 256 ≡ n / 256 % 256 = omega arith in e ∙ sym (xor_zero_r (n / 256 % 256))
-four_be n s (suc (suc (suc zero))) hn hs ht =
-    let e : (n + s) % 256 ≡ n % 256 + s = omega arith in e ∙ nibble_sum (n % 256) s (omega arith) hn hs
-four_be n s (suc (suc (suc (suc t)))) hn hs ht = absurd (omega arith)
+four_be : (n s t : ℕ) → n % 256 + s < 256 → t < 4
+    → get_or (bytes_high_first 4 (n + s)) t 0 ≡ get_or (bytes_high_first 4 n) t 0 + cond (12 + t == 15) s 0
+four_be n s zero hn ht = let e : (n + s) / 16777216 % 256 ≡ n / 16777216 % 256 + 0 = omega arith in e
+four_be n s (suc zero) hn ht = let e : (n + s) / 65536 % 256 ≡ n / 65536 % 256 + 0 = omega arith in e
+four_be n s (suc (suc zero)) hn ht = let e : (n + s) / 256 % 256 ≡ n / 256 % 256 + 0 = omega arith in e
+four_be n s (suc (suc (suc zero))) hn ht = let e : (n + s) % 256 ≡ n % 256 + s = omega arith in e
+four_be n s (suc (suc (suc (suc t)))) hn ht = absurd (omega arith)
 
 -- the number that the last four bytes spell is that of the three before the last, times 256, plus the last byte
 last_be : (b : List ℕ) → length b ≡ 16 → be (drop 12 b) ≡ be (take 3 (drop 12 b)) * 256 + get_or b 15 0
@@ -84,33 +94,31 @@ byte_be front n t size =
 before_computed : all_below (λ i. cond (i == 15) 1 0 == 0) 12 ≡ true
 before_computed = refl
 
-pub counts_be : CountsInNibble up_be 15
+blocks_be : (b : List ℕ) (j : ℕ) → IsBlock b → IsBlock (up_be b j)
 unfolding up_be
-counts_be = record {
+blocks_be b j block =
+    let front : List ℕ = take 12 b in
+    let long : length b ≡ 16 = block.length_is in
+    let n : ℕ = (be (drop 12 b) + j) % 2 ^ 32 in
+    let size : length front ≡ 12 = length-take-le 12 b (omega arith) in
+    record {
+      length_is = length-append front (bytes_high_first 4 n) ∙ ap (λ (x : ℕ). x + 4) size;
+      bytes = small_append front (bytes_high_first 4 n) (small_take 12 b block.bytes) (bytes_be n);
+    }
+
+pub bytes_count_be : CountsInByte up_be 15
+unfolding up_be
+bytes_count_be = record {
   within = omega arith;
-  blocks = λ b j block.
-      let front : List ℕ = take 12 b in
-      let long : length b ≡ 16 = block.length_is in
-      let n : ℕ = (be (drop 12 b) + j) % 2 ^ 32 in
-      let size : length front ≡ 12 = length-take-le 12 b (omega arith) in
-      record {
-        length_is = length-append front (bytes_high_first 4 n) ∙ ap (λ (x : ℕ). x + 4) size;
-        bytes = small_append front (bytes_high_first 4 n) (small_take 12 b block.bytes) (bytes_be n);
-      };
-  nibble = λ b j block.
-      let long : length b ≡ 16 = block.length_is in
-      let n : ℕ = (be (drop 12 b) + j) % 2 ^ 32 in
-      let size : length (take 12 b) ≡ 12 = length-take-le 12 b (omega arith) in
-      let number = last_be b long in
-      let low : n % 256 % 16 ≡ (get_or b 15 0 + j) % 16 = omega arith in
-      ap (λ (x : ℕ). x % 16) (byte_be (take 12 b) n 3 size) ∙ low;
-  near = λ b j s i block none hs hi.
+  end = inr refl;
+  blocks = blocks_be;
+  near = λ b j s i block below hi.
       let front : List ℕ = take 12 b in
       let long : length b ≡ 16 = block.length_is in
       let n : ℕ = (be (drop 12 b) + j) % 2 ^ 32 in
       let m : ℕ = (be (drop 12 b) + (j + s)) % 2 ^ 32 in
       let size : length front ≡ 12 = length-take-le 12 b (omega arith) in
-      let low : n % 256 % 16 ≡ 0 = ap (λ (x : ℕ). x % 16) (sym (byte_be front n 3 size)) ∙ none in
+      let low : n % 256 + s < 256 = omega (arith, below, byte_be front n 3 size) in
       let sum : m ≡ n + s = omega arith in
       elim (cases_lt i 12) [
         | inl l ↦
@@ -122,10 +130,25 @@ counts_be = record {
             let place : i ≡ 12 + (i - 12) = omega arith in
             ap (λ (p : ℕ). get_or (front ++ bytes_high_first 4 m) p 0) place ∙ byte_be front m (i - 12) size
             ∙ ap (λ (x : ℕ). get_or (bytes_high_first 4 x) (i - 12) 0) sum
-            ∙ four_be n s (i - 12) low hs (omega arith)
-            ∙ ap₂ (λ (x p : ℕ). bit_xor x (cond (p == 15) s 0)) (sym (byte_be front n (i - 12) size)) (sym place)
-            ∙ ap (λ (p : ℕ). bit_xor (get_or (front ++ bytes_high_first 4 n) p 0) (cond (i == 15) s 0)) (sym place)
+            ∙ four_be n s (i - 12) low (omega arith)
+            ∙ ap₂ (λ (x p : ℕ). x + cond (p == 15) s 0) (sym (byte_be front n (i - 12) size)) (sym place)
+            ∙ ap (λ (p : ℕ). get_or (front ++ bytes_high_first 4 n) p 0 + cond (i == 15) s 0) (sym place)
       ];
+}
+
+pub counts_be : CountsInNibble up_be 15
+unfolding up_be
+counts_be = record {
+  within = omega arith;
+  blocks = blocks_be;
+  nibble = λ b j block.
+      let long : length b ≡ 16 = block.length_is in
+      let n : ℕ = (be (drop 12 b) + j) % 2 ^ 32 in
+      let size : length (take 12 b) ≡ 12 = length-take-le 12 b (omega arith) in
+      let number = last_be b long in
+      let low : n % 256 % 16 ≡ (get_or b 15 0 + j) % 16 = omega arith in
+      ap (λ (x : ℕ). x % 16) (byte_be (take 12 b) n 3 size) ∙ low;
+  near = in_nibble up_be 15 bytes_count_be;
 }
 
 -- ---- least significant byte first
@@ -136,17 +159,13 @@ bytes_le n (suc (suc zero)) = omega arith
 bytes_le n (suc (suc (suc zero))) = omega arith
 bytes_le n (suc (suc (suc (suc t)))) = omega arith
 
-four_le : (n s t : ℕ) → n % 256 % 16 ≡ 0 → s < 16 → t < 4
-    → get_or (bytes_low_first 0 4 (n + s)) t 0 ≡ bit_xor (get_or (bytes_low_first 0 4 n) t 0) (cond (t == 0) s 0)
-four_le n s zero hn hs ht =
-    let e : (n + s) % 256 ≡ n % 256 + s = omega arith in e ∙ nibble_sum (n % 256) s (omega arith) hn hs
-four_le n s (suc zero) hn hs ht =
-    let e : (n + s) / 256 % 256 ≡ n / 256 % 256 = omega arith in e ∙ sym (xor_zero_r (n / 256 % 256))
-four_le n s (suc (suc zero)) hn hs ht =
-    let e : (n + s) / 65536 % 256 ≡ n / 65536 % 256 = omega arith in e ∙ sym (xor_zero_r (n / 65536 % 256))
-four_le n s (suc (suc (suc zero))) hn hs ht =
-    let e : (n + s) / 16777216 % 256 ≡ n / 16777216 % 256 = omega arith in e ∙ sym (xor_zero_r (n / 16777216 % 256))
-four_le n s (suc (suc (suc (suc t)))) hn hs ht = absurd (omega arith)
+four_le : (n s t : ℕ) → n % 256 + s < 256 → t < 4
+    → get_or (bytes_low_first 0 4 (n + s)) t 0 ≡ get_or (bytes_low_first 0 4 n) t 0 + cond (t == 0) s 0
+four_le n s zero hn ht = let e : (n + s) % 256 ≡ n % 256 + s = omega arith in e
+four_le n s (suc zero) hn ht = let e : (n + s) / 256 % 256 ≡ n / 256 % 256 + 0 = omega arith in e
+four_le n s (suc (suc zero)) hn ht = let e : (n + s) / 65536 % 256 ≡ n / 65536 % 256 + 0 = omega arith in e
+four_le n s (suc (suc (suc zero))) hn ht = let e : (n + s) / 16777216 % 256 ≡ n / 16777216 % 256 + 0 = omega arith in e
+four_le n s (suc (suc (suc (suc t)))) hn ht = absurd (omega arith)
 
 -- the low half of the number in the first four bytes plus j is the low half of the first byte plus j
 first_le : (b : List ℕ) (j : ℕ) → length b ≡ 16
@@ -158,32 +177,36 @@ first_le (x ∷ xs) j long = omega arith
 after_computed : all_below (λ i. cond (4 + i == 0) 1 0 == 0) 12 ≡ true
 after_computed = refl
 
-pub counts_le : CountsInNibble up_le 0
+blocks_le : (b : List ℕ) (j : ℕ) → IsBlock b → IsBlock (up_le b j)
 unfolding up_le
-counts_le = record {
+blocks_le b j block =
+    let back : List ℕ = drop 4 b in
+    let long : length b ≡ 16 = block.length_is in
+    let n : ℕ = (le (take 4 b) + j) % 2 ^ 32 in
+    record {
+      length_is = length-append (bytes_low_first 0 4 n) back
+          ∙ ap (λ (x : ℕ). 4 + x) (length-drop 4 b ∙ ap (λ (x : ℕ). x - 4) long);
+      bytes = small_append (bytes_low_first 0 4 n) back (bytes_le n)
+          (λ i. rw (get_or-drop 4 b i 0) (block.bytes (4 + i)));
+    }
+
+pub bytes_count_le : CountsInByte up_le 0
+unfolding up_le
+bytes_count_le = record {
   within = omega arith;
-  blocks = λ b j block.
-      let back : List ℕ = drop 4 b in
-      let long : length b ≡ 16 = block.length_is in
-      let n : ℕ = (le (take 4 b) + j) % 2 ^ 32 in
-      record {
-        length_is = length-append (bytes_low_first 0 4 n) back
-            ∙ ap (λ (x : ℕ). 4 + x) (length-drop 4 b ∙ ap (λ (x : ℕ). x - 4) long);
-        bytes = small_append (bytes_low_first 0 4 n) back (bytes_le n)
-            (λ i. rw (get_or-drop 4 b i 0) (block.bytes (4 + i)));
-      };
-  nibble = λ b j block. first_le b j block.length_is;
-  near = λ b j s i block none hs hi.
+  end = inl refl;
+  blocks = blocks_le;
+  near = λ b j s i block below hi.
       let back : List ℕ = drop 4 b in
       let n : ℕ = (le (take 4 b) + j) % 2 ^ 32 in
       let m : ℕ = (le (take 4 b) + (j + s)) % 2 ^ 32 in
-      let low : n % 256 % 16 ≡ 0 = none in
+      let low : n % 256 + s < 256 = below in
       let sum : m ≡ n + s = omega arith in
       elim (cases_lt i 4) [
         | inl l ↦
             get_or_append_left (bytes_low_first 0 4 m) back 0 i l
-            ∙ ap (λ (x : ℕ). get_or (bytes_low_first 0 4 x) i 0) sum ∙ four_le n s i low hs l
-            ∙ ap (λ (x : ℕ). bit_xor x (cond (i == 0) s 0)) (sym (get_or_append_left (bytes_low_first 0 4 n) back 0 i l))
+            ∙ ap (λ (x : ℕ). get_or (bytes_low_first 0 4 x) i 0) sum ∙ four_le n s i low l
+            ∙ ap (λ (x : ℕ). x + cond (i == 0) s 0) (sym (get_or_append_left (bytes_low_first 0 4 n) back 0 i l))
         | inr g ↦
             let place : i ≡ 4 + (i - 4) = omega arith in
             let t : ℕ = i - 4 in
@@ -193,6 +216,15 @@ counts_le = record {
             ∙ sym (get_or-append-add (bytes_low_first 0 4 n) back t 0)
             ∙ unlike (4 + t == 0) (get_or (bytes_low_first 0 4 n ++ back) (4 + t) 0) s
             (eqb-true (cond (4 + t == 0) 1 0) 0 (all_below_at (λ i. cond (4 + i == 0) 1 0 == 0) 12 t after_computed within))
-            ∙ ap (λ (p : ℕ). bit_xor (get_or (bytes_low_first 0 4 n ++ back) p 0) (cond (p == 0) s 0)) (sym place)
+            ∙ ap (λ (p : ℕ). get_or (bytes_low_first 0 4 n ++ back) p 0 + cond (p == 0) s 0) (sym place)
       ];
+}
+
+pub counts_le : CountsInNibble up_le 0
+unfolding up_le
+counts_le = record {
+  within = omega arith;
+  blocks = blocks_le;
+  nibble = λ b j block. first_le b j block.length_is;
+  near = in_nibble up_le 0 bytes_count_le;
 }

@@ -106,7 +106,7 @@ abbrev pub brought : (ℕ → List ℕ) → ℕ → ℕ → ℕ
 brought f l k = linear_sbox (block_byte f (get_or SHIFTED l 0) k)
 
 -- byte i after a round of one block, in terms of the bytes from which it comes
-one_round : (b : List ℕ) (ws : List (List ℕ)) (i : ℕ) → IsBlock b → i < 16
+pub one_round : (b : List ℕ) (ws : List (List ℕ)) (i : ℕ) → IsBlock b → i < 16
     → get_or (add_round_key ws 0 (mix_columns (shift_rows (sub_bytes b)))) i 0
     ≡ bit_xor (mixed (sbox (get_or b (row_source i) 0)) (sbox (get_or b (row_source (row_below i)) 0))
     (sbox (get_or b (row_source (row_below (row_below i))) 0))

@@ -255,6 +255,21 @@ front_none up key s was none = record {
   front = advances-nil up key s;
 }
 
+-- so has one with the same numbers
+pub front_same : {C : Type 0} (up : List ℕ → ℕ → List ℕ) (key : List ℕ) (s t : Counter C) (was : List ℕ) → t.first ≡ s.first
+    → t.block_count ≡ s.block_count → t.used ≡ s.used → t.mask ≡ s.mask → s.used ≡ 0 → AdvancesFront up key s t was was 0
+front_same up key s t was first_stays count_stays used_stays mask_stays none = record {
+  within = omega arith;
+  none = λ l. used_stays ∙ none;
+  left = refl;
+  front = λ first made held. advances-nil up key t first made (record {
+    first_is = first_stays ∙ held.first_is;
+    block_count_is = count_stays ∙ held.block_count_is;
+    used_is = used_stays ∙ held.used_is;
+    mask_is = λ l. mask_stays ∙ held.mask_is l;
+  });
+}
+
 -- if a stream advanced over the first a bytes, and then over k bytes that are written after them, it advanced over the first b
 pub front_more : {C : Type 0} (up : List ℕ → ℕ → List ℕ) (key : List ℕ) (s t u : Counter C) (was mid ys : List ℕ) (a k b : ℕ)
     → length mid ≡ length was → AdvancesFront up key s t was mid a → a + k ≤ length mid → a + k ≡ b → length ys ≡ k

@@ -9,5 +9,6 @@ pub mod Nibbles
 pub mod Planes
 pub mod Wraps
 pub mod Columns
+pub mod FirstRound
 pub mod ReadyKeys
 pub mod Streams

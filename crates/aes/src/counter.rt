@@ -5,19 +5,22 @@ ghost use Rattle.std.specs.Prelude.{◌≡◌, ℕ, ◌+◌, ◌*◌, ◌%◌, �
 ghost use Rattle.std.specs.Option.{ForSome};
 ghost use Rattle.octets.specs.Bytes.{IsBlock, block_at, xor_bytes};
 ghost use Rattle.octets.specs.Masked.{masked};
+ghost use Rattle.aes.specs.Cipher.{rounds};
 ghost use Rattle.aes.specs.Counters.{CountsOn, counter_byte, up_be, up_le};
-ghost use Rattle.aes.specs.Code.Nibbles.{CountsInNibble};
+ghost use Rattle.aes.specs.Code.Nibbles.{CountsInByte, CountsInNibble};
 ghost use Rattle.aes.specs.Code.Planes.{AreReady};
 ghost use Rattle.aes.specs.Schedule.{schedule, round_count};
 ghost use Rattle.aes.specs.Code.Wraps.{WrapsAround, up_be-wraps, up_le-wraps};
 
 use crate::counted_planes::count_blocks;
+use crate::first_round::{share_round, sixteen_states};
 use crate::key::AesKey;
 use crate::key_planes::RoundKeyPlanes;
 use crate::planes::Planes;
 use byteorder::{BigEndian, ByteOrder, LittleEndian};
 use octets::{Block, Stream, WIDE, same, xor_into};
 use std::marker::PhantomData;
+use std::simd::u8x16;
 
 /// The law of counting blocks (SP 800-38D, 6.2; RFC 8452, 4): 0 steps lead from a block of 16 bytes to
 /// itself, and j + 1 steps to the block one step after the j-th. The call does nothing; its contract is
@@ -88,6 +91,10 @@ pub trait Count {
     fn counts_in_nibble()
         ensures { CountsInNibble up LOW };
 
+    // A law for the caller's proof: how the byte at `LOW` counts. The call does nothing.
+    fn counts_in_byte()
+        ensures { CountsInByte up LOW };
+
     ghost wraps: { WrapsAround up };
 }
 
@@ -111,6 +118,8 @@ impl Count for LastFour {
     }
 
     fn counts_in_nibble() {}
+
+    fn counts_in_byte() {}
 }
 
 /// The counter is the first four bytes, least significant byte first (RFC 8452, 4).
@@ -133,6 +142,8 @@ impl Count for FirstFour {
     }
 
     fn counts_in_nibble() {}
+
+    fn counts_in_byte() {}
 }
 
 /// A counter block with its cipher, or neither. A stream that begins inside this block need not encrypt it again. The cipher is as
@@ -185,6 +196,9 @@ const SIXTEEN_PAY: usize = if WIDE { 96 } else { 64 };
 // Up to this many bytes, a run of eight blocks followed by shorter runs takes no longer than one run of sixteen.
 const EIGHT_PAY: usize = if WIDE { 0 } else { 192 };
 
+// From this many runs of sixteen blocks on, it pays to share their first round.
+const SHARED_PAY: usize = 3;
+
 // How many of the remaining bytes the next run masks.
 #[inline(always)]
 fn run_of(left: usize) -> usize
@@ -211,6 +225,7 @@ struct Counter<C> {
 impl<C: Count> Counter<C> {
     ghost use Rattle.aes.specs.Code.Streams.{Makes, Advances, AdvancesFront, KnowsCipher};
     ghost use Rattle.aes.specs.Code.Planes.{AreMasks, HoldsSixteen};
+    ghost use Rattle.aes.specs.Code.FirstRound.{CanShare};
 
     // The state at the beginning of the stream whose first block is the cipher of `first`.
     #[inline(always)]
@@ -380,30 +395,104 @@ impl<C: Count> Counter<C> {
         ensures advances { Advances C.up key.now self.old self.new bytes.old bytes.new }
         ensures used { self.new.used ≡ length bytes.old % 16 }
     {
-        let (a, b, c, d) = key.encrypt_sixteen(words, self.sixteen());
+        let start = key.add_first_key(words, self.sixteen());
+        let (a, b, c, d) = key.encrypt_sixteen(words, start, 0);
         self.mask_with([a, b, c, d].as_flattened(), bytes);
     }
 
-    // XORs in the first bytes of the next sixteen blocks. Every earlier block is used up.
+    // XORs in the next sixteen blocks, whose states after `from` rounds are in planes. Every earlier block is used up.
+    #[inline(always)]
+    fn mask_states(
+        &mut self,
+        key: &AesKey,
+        words: &RoundKeyPlanes,
+        states: Planes,
+        from: usize,
+        bytes: &mut [u8],
+    )
+        requires ready { AreReady words.now (schedule key.now) (round_count key.now) }
+        requires few { from < 2 }
+        requires none { self.old.used ≡ 0 }
+        requires whole { length bytes.old ≡ 256 }
+        requires are_blocks { (j : ℕ) → IsBlock (C.up self.old.first j) }
+        requires states { HoldsSixteen states
+            (λ q. rounds (schedule key.now) from (C.up self.old.first ((self.old.block_count + q) % 2 ^ 32))) }
+        ensures advances { Advances C.up key.now self.old self.new bytes.old bytes.new }
+        ensures used { self.new.used ≡ 0 }
+        ensures first { self.new.first ≡ self.old.first }
+        ensures number { self.new.block_count ≡ (self.old.block_count + 16) % 2 ^ 32 }
+    {
+        let (a, b, c, d) = key.encrypt_sixteen(words, states, from);
+        self.block_count = self.block_count.wrapping_add(16);
+        xor_fours(bytes, &a, &b, &c, &d);
+    }
+
+    // XORs in the next blocks, in runs of sixteen that share their first round. Every earlier block is used up. Inlined, it would make
+    // short messages reserve stack for the states.
+    #[inline(never)]
+    fn mask_shared(&mut self, key: &AesKey, words: &RoundKeyPlanes, bytes: &mut [u8])
+        requires ready { AreReady words.now (schedule key.now) (round_count key.now) }
+        requires none { self.old.used ≡ 0 }
+        requires can { CanShare C.up C.LOW self.old.first self.old.block_count (length bytes.old) }
+        ensures advances { Advances C.up key.now self.old self.new bytes.old bytes.new }
+        ensures used { self.new.used ≡ 0 }
+    {
+        C::counts_in_byte();
+        let _first = self.first.bytes();
+        let block = C::block(&self.first, self.block_count);
+        let mut base = [u8x16::splat(0); 8];
+        let mut columns = [[[0; 16]; 4]; 8];
+        share_round(&mut base, &mut columns, key, words, block.bytes(), C::LOW);
+        let mut done = 0;
+        'runs: while done < bytes.len() {
+            let states = sixteen_states(base, &columns, done / 256);
+            self.mask_states(key, words, states, 1, &mut bytes[done..done + 256]);
+            done += 256;
+        }
+    }
+
+    // XORs in the first bytes of the next sixteen blocks, or more whole runs of sixteen that can share their first round. Every earlier
+    // block is used up.
     fn mask_sixteen(&mut self, key: &AesKey, words: &RoundKeyPlanes, bytes: &mut [u8])
         requires ready { AreReady words.now (schedule key.now) (round_count key.now) }
         requires none { self.old.used ≡ 0 }
-        requires room { length bytes.old ≤ 256 }
+        requires can { 256 < length bytes.old
+            → CanShare C.up C.LOW self.old.first self.old.block_count (length bytes.old) }
         ensures advances { Advances C.up key.now self.old self.new bytes.old bytes.new }
         ensures used { self.new.used ≡ length bytes.old % 16 }
     {
+        // The length of a whole run is a constant here, so it is XORed from registers.
+        if bytes.len() == 256 {
+            let start = key.add_first_key(words, self.sixteen());
+            self.mask_states(key, words, start, 0, bytes);
+            return;
+        }
+        if bytes.len() > 256 {
+            self.mask_shared(key, words, bytes);
+            return;
+        }
         if !WIDE && bytes.len() <= 128 {
             self.mask_eight(key, words, bytes);
             return;
         }
-        if bytes.len() < 256 {
-            self.mask_part(key, words, bytes);
-            return;
+        self.mask_part(key, words, bytes);
+    }
+
+    // How many of the remaining bytes `mask_sixteen` masks next: more than one run only before the counter's byte at `LOW` passes 255.
+    fn next_run(&self, left: usize) -> usize
+        ensures within { result ≤ left }
+        ensures some { 0 < left → 0 < result }
+        ensures whole { result < left → result % 16 ≡ 0 }
+        ensures can { 256 < result → CanShare C.up C.LOW self.now.first self.now.block_count result }
+    {
+        C::counts_in_byte();
+        let block = C::block(&self.first, self.block_count);
+        let before = 256 - usize::from(block.bytes()[C::LOW]);
+        let runs = (before / 16).min(8).min(left / 256);
+        if runs >= SHARED_PAY {
+            return 256 * runs;
         }
-        let (a, b, c, d) = key.encrypt_sixteen(words, self.sixteen());
-        // The length of a whole run is a constant, so it is XORed from registers.
-        self.block_count = self.block_count.wrapping_add(16);
-        xor_fours(&mut bytes[..256], &a, &b, &c, &d);
+        run_of(left)
     }
 
     // XORs in runs of sixteen blocks while they pay, the last one perhaps in part, and returns how many bytes it masked.
@@ -416,7 +505,7 @@ impl<C: Count> Counter<C> {
     {
         let mut done = 0;
         'sixteens: while bytes.len() - done > SIXTEEN_PAY {
-            let next = run_of(bytes.len() - done);
+            let next = self.next_run(bytes.len() - done);
             self.mask_sixteen(key, words, &mut bytes[done..done + next]);
             done += next;
         }

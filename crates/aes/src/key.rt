@@ -3,7 +3,7 @@
 ghost use Rattle.std.specs.Prelude.{◌≡◌, ℕ, ◌≤◌, ◌<◌, ◌+◌, ◌*◌, ◌/◌, ◌%◌, length, slice_index, slice_index_or, get_or, List, []};
 ghost use Rattle.std.specs.Prelude.{MatchResult};
 ghost use Rattle.octets.specs.Bytes.{IsBlock, block_at};
-ghost use Rattle.aes.specs.Cipher.{cipher, IsKey, IsKeyLength, IsPreimage};
+ghost use Rattle.aes.specs.Cipher.{cipher, rounds, IsKey, IsKeyLength, IsPreimage};
 ghost use Rattle.aes.specs.Code.InverseKey.{IsInverse};
 ghost use Rattle.aes.specs.Code.Lanes.{HoldsBlocks};
 ghost use Rattle.aes.specs.Code.Columns.{column_of, columns_of};
@@ -248,72 +248,96 @@ impl AesKey {
         ready_planes(keys, &self.keys, self.size + 6);
     }
 
-    // Encrypts eight blocks in planes, in place. Both halves of sixteen blocks call it.
-    fn encrypt_half(&self, keys: &[KeyPlanes; 15], planes: &mut HalfPlanes)
+    // Sixteen blocks in planes plus the first round key (FIPS 197, 5.1).
+    #[inline(always)]
+    pub(crate) fn add_first_key(&self, keys: &[KeyPlanes; 15], blocks: Planes) -> Planes
         requires { AreReady keys.now (schedule self.now) (round_count self.now) }
-        ensures { (f : ℕ → List ℕ) → ((q : ℕ) → IsBlock (f q)) → HoldsEight planes.old f
+        ensures { (f : ℕ → List ℕ) → HoldsSixteen blocks f
+            → HoldsSixteen result (λ q. rounds (schedule self.now) 0 (f q)) }
+    {
+        blocks.add(Planes::from_half(unpack(&keys[0])))
+    }
+
+    // The ciphers of eight blocks in planes, in place, from the states after `from` rounds. Both halves of sixteen blocks call it.
+    fn encrypt_half(&self, keys: &[KeyPlanes; 15], planes: &mut HalfPlanes, from: usize)
+        requires ready { AreReady keys.now (schedule self.now) (round_count self.now) }
+        requires few { from < 2 }
+        ensures { (f : ℕ → List ℕ) → ((q : ℕ) → IsBlock (f q))
+            → HoldsEight planes.old (λ q. rounds (schedule self.now) from (f q))
             → HoldsLanes 16 planes.new
             (λ l k. slice_index (cipher self.now (f (l / 16 * 8 + k))) (l % 16)) }
     {
         let count = self.size + 6;
-        let mut state = planes.add(unpack(&keys[0]));
-        for done in 0..count - 1 {
+        let mut state = *planes;
+        for done in from..count - 1 {
             let next = planes::round(state, unpack(&keys[done + 1]));
             state = next;
         }
         *planes = planes::last_round(state, unpack(&keys[count]));
     }
 
-    // Encrypts sixteen blocks in planes, all sixteen in each step.
+    // The ciphers of sixteen blocks in planes, from the states after `from` rounds, all sixteen in each step.
     #[inline(always)]
-    fn encrypt_whole(&self, keys: &[KeyPlanes; 15], start: Planes) -> Planes
-        requires { AreReady keys.now (schedule self.now) (round_count self.now) }
-        ensures { (f : ℕ → List ℕ) → ((q : ℕ) → IsBlock (f q)) → HoldsSixteen start f
+    fn encrypt_whole(&self, keys: &[KeyPlanes; 15], start: Planes, from: usize) -> Planes
+        requires ready { AreReady keys.now (schedule self.now) (round_count self.now) }
+        requires few { from < 2 }
+        ensures { (f : ℕ → List ℕ) → ((q : ℕ) → IsBlock (f q))
+            → HoldsSixteen start (λ q. rounds (schedule self.now) from (f q))
             → HoldsBits result (λ l k. slice_index (cipher self.now (f (l / 16 * 8 + k))) (l % 16)) }
     {
         let count = self.size + 6;
-        let mut state = start.add(Planes::from_half(unpack(&keys[0])));
-        for done in 0..count - 1 {
+        let mut state = start;
+        for done in from..count - 1 {
             let next = planes::round(state, Planes::from_half(unpack(&keys[done + 1])));
             state = next;
         }
         planes::last_round(state, Planes::from_half(unpack(&keys[count])))
     }
 
-    // Encrypts sixteen blocks in planes. Where a plane takes two registers, one half is encrypted after the other, since a
-    // round of eight blocks needs all registers.
+    // The ciphers of sixteen blocks in planes, from the states after `from` rounds. Where a plane takes two registers, one half is
+    // encrypted after the other, since a round of eight blocks needs all registers.
     #[inline(always)]
-    pub(crate) fn encrypt_planes(&self, keys: &[KeyPlanes; 15], start: Planes) -> Planes
-        requires { AreReady keys.now (schedule self.now) (round_count self.now) }
-        ensures { (f : ℕ → List ℕ) → ((q : ℕ) → IsBlock (f q)) → HoldsSixteen start f
+    pub(crate) fn encrypt_planes(
+        &self,
+        keys: &[KeyPlanes; 15],
+        start: Planes,
+        from: usize,
+    ) -> Planes
+        requires ready { AreReady keys.now (schedule self.now) (round_count self.now) }
+        requires few { from < 2 }
+        ensures { (f : ℕ → List ℕ) → ((q : ℕ) → IsBlock (f q))
+            → HoldsSixteen start (λ q. rounds (schedule self.now) from (f q))
             → HoldsBits result (λ l k. slice_index (cipher self.now (f (l / 16 * 8 + k))) (l % 16)) }
     {
         if WIDE {
-            return self.encrypt_whole(keys, start);
+            return self.encrypt_whole(keys, start, from);
         }
         let mut first = lower(start);
         let mut second = upper(start);
-        self.encrypt_half(keys, &mut first);
-        self.encrypt_half(keys, &mut second);
+        self.encrypt_half(keys, &mut first, from);
+        self.encrypt_half(keys, &mut second, from);
         both_halves(first, second)
     }
 
-    // Returns the ciphers of sixteen blocks in planes, four in each array.
+    // Returns the ciphers of sixteen blocks, four in each array, from the states after `from` rounds in planes.
     #[inline(always)]
     pub(crate) fn encrypt_sixteen(
         &self,
         keys: &[KeyPlanes; 15],
         start: Planes,
+        from: usize,
     ) -> ([u8; 64], [u8; 64], [u8; 64], [u8; 64])
-        requires { AreReady keys.now (schedule self.now) (round_count self.now) }
-        ensures { (f : ℕ → List ℕ) → ((q : ℕ) → IsBlock (f q)) → HoldsSixteen start f
+        requires ready { AreReady keys.now (schedule self.now) (round_count self.now) }
+        requires few { from < 2 }
+        ensures { (f : ℕ → List ℕ) → ((q : ℕ) → IsBlock (f q))
+            → HoldsSixteen start (λ q. rounds (schedule self.now) from (f q))
             → ((q : ℕ) → q < 4 → block_at result.0 q ≡ cipher self.now (f q))
             × ((q : ℕ) → q < 4 → block_at result.1 q ≡ cipher self.now (f (4 + q)))
             × ((q : ℕ) → q < 4 → block_at result.2 q ≡ cipher self.now (f (8 + q)))
             × ((q : ℕ) → q < 4 → block_at result.3 q ≡ cipher self.now (f (12 + q))) }
     {
         self.is_key();
-        let (first, second, third, fourth) = planes::store(self.encrypt_planes(keys, start));
+        let (first, second, third, fourth) = planes::store(self.encrypt_planes(keys, start, from));
         (
             first.to_array(),
             second.to_array(),
@@ -335,8 +359,8 @@ impl AesKey {
             × ((q : ℕ) → q < 4 → block_at result.1 q ≡ cipher self.now (f (4 + q))) }
     {
         self.is_key();
-        let mut half = lower(start);
-        self.encrypt_half(keys, &mut half);
+        let mut half = lower(self.add_first_key(keys, start));
+        self.encrypt_half(keys, &mut half, 0);
         // The other lanes are not used, so LLVM leaves out the steps that store them.
         let (first, second, _, _) = planes::store(Planes::from_half(half));
         (first.to_array(), second.to_array())
@@ -359,7 +383,7 @@ impl AesKey {
     }
 
     // A law for the caller's proof: the key has 16, 24 or 32 bytes. The call does nothing.
-    fn is_key(&self)
+    pub(crate) fn is_key(&self)
         ensures { IsKey self.now }
     {
         let _size = self.size;

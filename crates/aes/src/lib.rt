@@ -19,6 +19,7 @@
 mod columns;
 mod counted_planes;
 mod counter;
+mod first_round;
 mod inverse_key;
 mod inverse_lanes;
 mod key;

@@ -506,7 +506,7 @@ fn exchange(x: u8x32, y: u8x32, by: u8, mask: u8) -> (u8x32, u8x32)
 
 // Transposes the bits of each lane: bit k of plane j becomes bit j of plane k.
 #[inline(always)]
-fn transpose(p: Planes) -> Planes
+pub(crate) fn transpose(p: Planes) -> Planes
     ensures { HoldsBits result (λ l k. slice_index (slice_index_or p k []) l) }
 {
     let (a0, a1) = exchange(p[0], p[1], 1, 0x55);

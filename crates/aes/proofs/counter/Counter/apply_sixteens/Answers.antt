@@ -9,14 +9,14 @@ sixteens-init g c = front_none g.C.Count.up c.args.key.now c.args.self.now c.arg
 pub sixteens-preserved : goal.sixteens-preserved
 sixteens-preserved g c =
     let a : ℕ = c.sixteens.done in
-    let k : ℕ = a + c.run_of-next.result - a in
+    let k : ℕ = a + c.next_run-next.result - a in
     let mid = c.sixteens.bytes in
     let same : length mid ≡ length c.args.bytes.now = c.sixteens.auto.bytes in
     let within : a ≤ length mid = omega (arith, same, c.sixteens.invariant.within) in
-    let room : a + k ≤ length mid = omega (arith, within, c.run_of-next.ensures.within) in
+    let room : a + k ≤ length mid = omega (arith, within, c.next_run-next.ensures.within) in
     let part : length (take k (drop a mid)) ≡ k =
     length-take-le k (drop a mid) (omega (arith, room, length-drop a mid)) in
     front_more g.C.Count.up c.args.key.now c.args.self.now c.sixteens.self c.mask_sixteen.new.self c.args.bytes.now mid
-    c.mask_sixteen.new.bytes a k (a + c.run_of-next.result) same c.sixteens.invariant room (omega arith)
+    c.mask_sixteen.new.bytes a k (a + c.next_run-next.result) same c.sixteens.invariant room (omega arith)
     (c.mask_sixteen.auto.bytes ∙ part) c.mask_sixteen.ensures.advances
-    (λ l. omega (arith, l, part, within, c.run_of-next.ensures.whole (omega (arith, l, within)), c.mask_sixteen.ensures.used))
+    (λ l. omega (arith, l, part, within, c.next_run-next.ensures.whole (omega (arith, l, within)), c.mask_sixteen.ensures.used))

@@ -11,7 +11,8 @@ returns-clause-advances g c = c.mask_with.ensures.advances c.args.key.now (λ q 
     let s = c.args.self.now in
     let up : List ℕ → ℕ → List ℕ = g.C.Count.up in
     let out = c.encrypt_sixteen.ensures (λ q. up s.first ((s.block_count + q) % 2 ^ 32))
-    (λ q. c.sixteen.ensures.each_is_block ((s.block_count + q) % 2 ^ 32)) c.sixteen.ensures.planes in
+    (λ q. c.sixteen.ensures.each_is_block ((s.block_count + q) % 2 ^ 32))
+    (c.add_first_key-start.ensures (λ q. up s.first ((s.block_count + q) % 2 ^ 32)) c.sixteen.ensures.planes) in
     let x = c.encrypt_sixteen.result in
     let first : length c.encrypt_sixteen.result.0 ≡ 64 = search rules in
     let second : length c.encrypt_sixteen.result.1 ≡ 64 = search rules in

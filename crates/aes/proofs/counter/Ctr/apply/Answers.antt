@@ -1,4 +1,3 @@
-use Rattle.std.proofs.Common.{◌∙◌}
 use Rattle.aes.proofs.counter.Ctr.apply.Goals as goal
 
 pub returns : goal.returns

@@ -1,6 +1,7 @@
 use Rattle.std.proofs.Common.{◌≡◌, ℕ, ◌+◌, ◌*◌, ◌/◌, ◌%◌, List, get_or, ap, ap₂, ◌∙◌, arith}
 use Rattle.octets.specs.Bytes.{IsBlock}
-use Rattle.aes.specs.Cipher.{IsKey, cipher}
+use Rattle.aes.specs.Cipher.{IsKey, cipher, rounds}
+use Rattle.aes.specs.Schedule.{schedule}
 use Rattle.aes.specs.Code.Planes.{block_byte}
 use Rattle.aes.proofs.FourRounds.{block_held}
 use Rattle.aes.proofs.Permutation.{cipher_block}
@@ -15,7 +16,7 @@ returns c = λ f blocks held.
     let made : (q : ℕ) → IsBlock (again q) = λ q. cipher_block key (f (q % 8)) k (blocks (q % 8)) in
     let byte : ℕ → ℕ → ℕ = λ l k. get_or (cipher key (f (l / 16 * 8 + k))) (l % 16) 0 in
     let both = same_bytes c.from_half.result (c.from_half.ensures byte
-    (c.encrypt_half.ensures f blocks (c.lower-half.ensures (block_byte f) held)))
+    (c.encrypt_half.ensures f blocks (c.lower-half.ensures (block_byte (λ q. rounds (schedule key) 0 (f q))) (c.add_first_key.ensures f held))))
     (λ l k hl hk.
     let block : l % 16 / 16 * 8 + k ≡ (l / 16 * 8 + k) % 8 = omega (arith, hl, hk) in
     let at : l % 16 % 16 ≡ l % 16 = omega arith in

@@ -6,5 +6,5 @@ use Rattle.aes.specs.Code.Planes.{HoldsEight}
 use Rattle.aes.proofs.key.AesKey.encrypt_half.Given as goal
 
 abbrev pub invariant-loop-done : goal.invariant-loop-done
-invariant-loop-done l = (f : ℕ → List ℕ) → ((q : ℕ) → IsBlock (f q)) → HoldsEight l.fn.planes f
+invariant-loop-done l = (f : ℕ → List ℕ) → ((q : ℕ) → IsBlock (f q)) → HoldsEight l.fn.planes (λ q. rounds (schedule l.self) l.from (f q))
     → HoldsEight l.state (λ q. rounds (schedule l.self) l.done (f q))

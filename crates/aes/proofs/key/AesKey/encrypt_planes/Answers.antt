@@ -1,5 +1,6 @@
-use Rattle.std.proofs.Common.{◌≡◌, ℕ, ◌+◌, ◌*◌, ◌/◌, ◌%◌, get_or, ap₂, arith}
-use Rattle.aes.specs.Cipher.{cipher}
+use Rattle.std.proofs.Common.{◌≡◌, ℕ, List, ◌+◌, ◌*◌, ◌/◌, ◌%◌, get_or, ap₂, arith}
+use Rattle.aes.specs.Cipher.{cipher, rounds}
+use Rattle.aes.specs.Schedule.{schedule}
 use Rattle.aes.specs.Code.Planes.{block_byte}
 use Rattle.aes.proofs.SixteenBlocks.{same_bytes, second_block}
 use Rattle.aes.proofs.key.AesKey.encrypt_planes.Goals as goal
@@ -10,12 +11,13 @@ returns-then-this c = λ f blocks held. c.encrypt_whole.ensures f blocks held
 pub returns : goal.returns
 returns c = λ f blocks held.
     let key = c.args.self.now in
+    let state : ℕ → List ℕ = λ q. rounds (schedule key) c.args.from (f q) in
     let byte : ℕ → ℕ → ℕ = λ l k. get_or (cipher key (f (l / 16 * 8 + k))) (l % 16) 0 in
     c.both_halves.ensures byte
-    (c.encrypt_half.ensures f blocks (c.lower-first.ensures (block_byte f) held))
+    (c.encrypt_half.ensures f blocks (c.lower-first.ensures (block_byte state) held))
     (same_bytes c.encrypt_half-2.new.planes
     (c.encrypt_half-2.ensures (λ q. f (8 + q)) (λ q. blocks (8 + q))
-    (same_bytes c.upper-second.result (c.upper-second.ensures (block_byte f) held) (λ l k hl hk. second_block f l k hl)))
+    (same_bytes c.upper-second.result (c.upper-second.ensures (block_byte state) held) (λ l k hl hk. second_block state l k hl)))
     (λ l k hl hk.
     let block : 8 + (l / 16 * 8 + k) ≡ (16 + l) / 16 * 8 + k = omega (arith, hl) in
     let at : l % 16 ≡ (16 + l) % 16 = omega (arith, hl) in

@@ -2,22 +2,15 @@ use Rattle.std.proofs.Common.{[], drop, ◌≡◌, ℕ, List, ◌+◌, ◌*◌, 
 use Rattle.std.proofs.Common.{◌∙◌, arith}
 use Rattle.aes.specs.Schedule.{round_count, schedule}
 use Rattle.aes.specs.Cipher.{sub_bytes, shift_rows, mix_columns, add_round_key, rounds}
-use Rattle.aes.specs.Code.Planes.{HoldsWords, block_byte, spot, word_byte, masked_byte}
-use Rattle.aes.proofs.Expanded.{rounds_start, next_round, final_round, is_key, kept_length}
+use Rattle.aes.specs.Code.Planes.{HoldsWords, spot, masked_byte}
+use Rattle.aes.proofs.Expanded.{next_round, final_round, is_key, kept_length}
 use Rattle.aes.proofs.Permutation.{words_are, rounds_block}
 use Rattle.aes.proofs.KeyPlanes.{spot_half}
-use Rattle.aes.proofs.SixteenBlocks.{same_bytes, same_blocks, first_value, dropped_row, dropped_last}
+use Rattle.aes.proofs.SixteenBlocks.{same_bytes, same_blocks, dropped_row, dropped_last}
 use Rattle.aes.proofs.key.AesKey.encrypt_whole.Goals as goal
 
 pub loop-done-init : goal.loop-done-init
-loop-done-init c = λ f blocks held.
-    let ws = schedule c.args.self.now in
-    same_bytes c.add-state.result
-    (c.add-state.ensures (block_byte f) (λ l k. word_byte ws 0 (spot l)) held
-    (same_bytes _ (c.from_half.ensures (λ l k. word_byte ws 0 (spot l))
-    (c.unpack.ensures (λ l k. word_byte ws 0 (spot l)) c.requires.first))
-    (λ l k hl hk. ap (word_byte ws 0) (spot_half l))))
-    (λ l k hl hk. first_value f ws l k ∙ ap (λ b. get_or b (spot l) 0) (sym (rounds_start ws (f (l / 16 * 8 + k)))))
+loop-done-init c = λ f blocks held. held
 
 pub loop-done-preserved : goal.loop-done-preserved
 loop-done-preserved c = λ f blocks held.
@@ -34,9 +27,9 @@ loop-done-preserved c = λ f blocks held.
     (λ q. rounds ws (n + 1) (f q)) (λ q. next_round key (f q) n (omega arith))
     (c.round-next.ensures state vs (λ q. rounds_block ws n (f q) words (blocks q))
     (c.loop-done.invariant f blocks held)
-    (same_bytes _ (c.from_half-in-loop-done.ensures (λ l k. masked_byte ws (n + 1) (spot l))
-    (c.unpack-in-loop-done.ensures (λ l k. masked_byte ws (n + 1) (spot l))
-    (c.requires.middle (n + 1) (omega arith) (omega arith))))
+    (same_bytes _ (c.from_half.ensures (λ l k. masked_byte ws (n + 1) (spot l))
+    (c.unpack.ensures (λ l k. masked_byte ws (n + 1) (spot l))
+    (c.requires.ready.middle (n + 1) (omega arith) (omega arith))))
     (λ l k hl hk. ap (masked_byte ws (n + 1)) (spot_half l) ∙ dropped_row ws (n + 1) l)))
 
 pub returns : goal.returns
@@ -53,7 +46,7 @@ returns c = λ f blocks held.
     let vs = drop (4 * last) ws in
     let state : ℕ → List ℕ = λ q. rounds ws n (f q) in
     let final = subst (λ i. HoldsWords (get_or c.args.keys.now i []) (λ l k. masked_byte ws last l))
-    (sym count) c.requires.final in
+    (sym count) c.requires.ready.final in
     same_bytes c.last_round.result
     (c.last_round.ensures state vs (λ q. rounds_block ws n (f q) words (blocks q))
     (c.loop-done.invariant f blocks held)
