@@ -6,18 +6,18 @@ use Rattle.std.specs.Int.{bit_at}
 use Rattle.std.specs.Int.Bits.{xor_zero_l, xor_zero_r, xor_assoc, xor_comm}
 use Rattle.std.proofs.lemmas.Bool.{eqb-true, eqb-false, cases_lt, cases_eq}
 use Rattle.std.proofs.lemmas.Nat.Bits.{bit_at-zero}
-use Rattle.std.proofs.lemmas.List.{get_or-replicate, get_or_append_left, get_or-append-add, get_or_past}
+use Rattle.std.proofs.lemmas.List.{get_or-replicate, get_or_append_left, get_or-append-add, get_or_past, length-map}
 use Rattle.std.proofs.lemmas.List.{get_or-set_same, get_or-set_other, length-set}
 use Rattle.std.proofs.lemmas.Nat.{xor_of_8}
 use Rattle.std.proofs.lemmas.Simd.{get_or-zip2, length-zip2}
-use lib.Lanes.{zip2}
+use lib.Lanes.{zip2, put_chunk}
 use Rattle.octets.specs.Bytes.{IsBlock}
 use Rattle.octets.specs.Polynomial.{product, residue}
 use Rattle.aes.specs.Field.{times, sbox, affine, inverse}
 use Rattle.aes.specs.Cipher.{sub_bytes, shift_rows, mix_columns, add_round_key, rounds}
 use Rattle.aes.specs.Code.FirstRound.{share}
 use Rattle.aes.specs.Code.Lanes.{linear_sbox, key_byte, row_source, row_below}
-use Rattle.aes.specs.declared.first_round.TheConstants.{EIGHTS, IN_TURN, BOTH_IN_TURN, FIRST_COLUMNS}
+use Rattle.aes.specs.declared.first_round.TheConstants.{EIGHTS, FIRST_COLUMNS}
 use Rattle.aes.proofs.Tested.{all_below, all_below_at, eight_cases}
 use Rattle.aes.proofs.Sums.{times_xor, times_zero, xor_exchange}
 use Rattle.aes.proofs.Multiples.{single_is}
@@ -58,51 +58,124 @@ counted_lane first key k l h =
     (get_or-replicate {A = ℕ} 32 l key 0 h)
 
 -- ---- vectors whose lanes are taken in turn
--- the lanes 2 i and 2 i + 1 of two vectors in turn are lane i of the first and of the second
-turn : (x y ps : List ℕ) (n m i b : ℕ) → length x ≡ n → length y ≡ n → length ps ≡ m → m ≡ n + n → i < n → b < 2
-    → all_below (λ i. (get_or ps i 0 == i % 2 * n + i / 2) && ltb (get_or ps i 0) (n + n)) m ≡ true
-    → get_or (map (λ p. get_or (x ++ y) p 0) ps) (2 * i + b) 0 ≡ get_or (cond (b == 0) x y) i 0
-turn x y ps n m i zero hx hy hp hm hi hb test =
-    let even : (2 * i + 0) % 2 ≡ 0 = omega arith in
-    let half : (2 * i + 0) / 2 ≡ i = omega arith in
-    let whole : 0 * n + i ≡ i = omega arith in
-    let place : (2 * i + 0) % 2 * n + (2 * i + 0) / 2 ≡ i = ap₂ (λ (u v : ℕ). u * n + v) even half ∙ whole in
-    picked_two x y ps (λ l. l % 2 * n + l / 2) n m (2 * i + 0) hx hy hp (omega arith) test
-    ∙ ap (λ (q : ℕ). get_or (x ++ y) q 0) place ∙ get_or_append_left x y 0 i (omega arith)
-turn x y ps n m i (suc zero) hx hy hp hm hi hb test =
-    let odd : (2 * i + 1) % 2 ≡ 1 = omega arith in
-    let half : (2 * i + 1) / 2 ≡ i = omega arith in
-    let one : 1 * n ≡ length x = omega arith in
-    let place : (2 * i + 1) % 2 * n + (2 * i + 1) / 2 ≡ length x + i =
-    ap₂ (λ (u v : ℕ). u * n + v) odd half ∙ ap (λ (u : ℕ). u + i) one in
-    picked_two x y ps (λ l. l % 2 * n + l / 2) n m (2 * i + 1) hx hy hp (omega arith) test
-    ∙ ap (λ (q : ℕ). get_or (x ++ y) q 0) place ∙ get_or-append-add x y i 0
-turn x y ps n m i (suc (suc b)) hx hy hp hm hi hb test = absurd (omega arith)
+-- a list of four whose items are all written
+pub set_four : {A : Type 0} (xs : List A) (a b c d : A) → length xs ≡ 4
+    → slice_set (slice_set (slice_set (slice_set xs 0 a) 1 b) 2 c) 3 d ≡ a ∷ b ∷ c ∷ d ∷ []
+set_four [] a b c d h = absurd (omega arith)
+set_four (s ∷ []) a b c d h = absurd (omega arith)
+set_four (s ∷ t ∷ []) a b c d h = absurd (omega arith)
+set_four (s ∷ t ∷ u ∷ []) a b c d h = absurd (omega arith)
+set_four (s ∷ t ∷ u ∷ v ∷ []) a b c d h = refl
+set_four (s ∷ t ∷ u ∷ v ∷ w ∷ xs) a b c d h = absurd (omega arith)
 
--- the lanes of two vectors of 16 lanes in turn
-abbrev pub in_turn : List ℕ → List ℕ → List ℕ
-in_turn x y = map (λ p. get_or (x ++ y) p 0) IN_TURN
+-- a list that is written as a whole
+pub filled : (xs ys : List ℕ) → length xs ≡ length ys → put_chunk 0 xs ys ≡ ys
+filled [] [] h = refl
+filled [] (y ∷ ys) h = absurd (omega arith)
+filled (x ∷ xs) [] h = absurd (omega arith)
+filled (x ∷ xs) (y ∷ ys) h = ap (λ (l : List ℕ). y ∷ l) (filled xs ys (omega arith))
+
+-- a list of eight whose items are all written
+pub set_eight : {A : Type 0} (xs : List A) (a b c d e f g i : A) → length xs ≡ 8
+    → slice_set (slice_set (slice_set (slice_set (slice_set (slice_set (slice_set (slice_set xs 0 a) 1 b) 2 c) 3 d) 4 e) 5 f) 6 g)
+    7 i ≡ a ∷ b ∷ c ∷ d ∷ e ∷ f ∷ g ∷ i ∷ []
+set_eight [] a b c d e f g i h = absurd (omega arith)
+set_eight (s ∷ []) a b c d e f g i h = absurd (omega arith)
+set_eight (s ∷ t ∷ []) a b c d e f g i h = absurd (omega arith)
+set_eight (s ∷ t ∷ u ∷ []) a b c d e f g i h = absurd (omega arith)
+set_eight (s ∷ t ∷ u ∷ v ∷ []) a b c d e f g i h = absurd (omega arith)
+set_eight (s ∷ t ∷ u ∷ v ∷ w ∷ []) a b c d e f g i h = absurd (omega arith)
+set_eight (s ∷ t ∷ u ∷ v ∷ w ∷ x ∷ []) a b c d e f g i h = absurd (omega arith)
+set_eight (s ∷ t ∷ u ∷ v ∷ w ∷ x ∷ y ∷ []) a b c d e f g i h = absurd (omega arith)
+set_eight (s ∷ t ∷ u ∷ v ∷ w ∷ x ∷ y ∷ z ∷ []) a b c d e f g i h = refl
+set_eight (s ∷ t ∷ u ∷ v ∷ w ∷ x ∷ y ∷ z ∷ r ∷ xs) a b c d e f g i h = absurd (omega arith)
+
+-- the lanes 2 i and 2 i + 1 of two vectors in turn, from their lane o on, are lane o + i of the first and of the second
+turn : (x y ps : List ℕ) (o i b : ℕ) → length x ≡ 16 → length y ≡ 16 → length ps ≡ 16 → o + i < 16 → i < 8 → b < 2
+    → all_below (λ i. (get_or ps i 0 == i % 2 * 16 + (o + i / 2)) && ltb (get_or ps i 0) 32) 16 ≡ true
+    → get_or (map (λ p. get_or (x ++ y) p 0) ps) (2 * i + b) 0 ≡ get_or (cond (b == 0) x y) (o + i) 0
+turn x y ps o i zero hx hy hp ho hi hb test =
+    let place : (2 * i + 0) % 2 * 16 + (o + (2 * i + 0) / 2) ≡ o + i = omega arith in
+    picked_two x y ps (λ l. l % 2 * 16 + (o + l / 2)) 16 16 (2 * i + 0) hx hy hp (omega arith) test
+    ∙ ap (λ (q : ℕ). get_or (x ++ y) q 0) place ∙ get_or_append_left x y 0 (o + i) (omega arith)
+turn x y ps o i (suc zero) hx hy hp ho hi hb test =
+    let place : (2 * i + 1) % 2 * 16 + (o + (2 * i + 1) / 2) ≡ length x + (o + i) = omega arith in
+    picked_two x y ps (λ l. l % 2 * 16 + (o + l / 2)) 16 16 (2 * i + 1) hx hy hp (omega arith) test
+    ∙ ap (λ (q : ℕ). get_or (x ++ y) q 0) place ∙ get_or-append-add x y (o + i) 0
+turn x y ps o i (suc (suc b)) hx hy hp ho hi hb test = absurd (omega arith)
+
+-- the places of the first 8 lanes of two vectors of 16 lanes in turn, and of the last 8
+abbrev pub front_places : List ℕ
+front_places = 0 ∷ 16 ∷ 1 ∷ 17 ∷ 2 ∷ 18 ∷ 3 ∷ 19 ∷ 4 ∷ 20 ∷ 5 ∷ 21 ∷ 6 ∷ 22 ∷ 7 ∷ 23 ∷ []
+
+abbrev pub back_places : List ℕ
+back_places = 8 ∷ 24 ∷ 9 ∷ 25 ∷ 10 ∷ 26 ∷ 11 ∷ 27 ∷ 12 ∷ 28 ∷ 13 ∷ 29 ∷ 14 ∷ 30 ∷ 15 ∷ 31 ∷ []
+
+-- the lanes of two vectors at these places
+abbrev pub taken : List ℕ → List ℕ → List ℕ → List ℕ
+taken ps x y = map (λ p. get_or (x ++ y) p 0) ps
+
+-- four vectors in turn, from lane o + e of each on, where the lists take lanes from o and from 2 e on
+woven_part : (ps qs : List ℕ) (o e : ℕ) → (a b c d : List ℕ) → length a ≡ 16 → length b ≡ 16 → length c ≡ 16 → length d ≡ 16
+    → length ps ≡ 16 → length qs ≡ 16 → o < 9 → e < 5
+    → all_below (λ i. (get_or ps i 0 == i % 2 * 16 + (o + i / 2)) && ltb (get_or ps i 0) 32) 16 ≡ true
+    → all_below (λ i. (get_or qs i 0 == i % 2 * 16 + (2 * e + i / 2)) && ltb (get_or qs i 0) 32) 16 ≡ true
+    → (q r : ℕ) → q < 4 → r < 4
+    → get_or (taken qs (taken ps a c) (taken ps b d)) (4 * q + r) 0 ≡ get_or (get_or (a ∷ b ∷ c ∷ d ∷ []) r []) (o + (e + q)) 0
+woven_part ps qs o e a b c d ha hb hc hd lp lq ho he tp tq q r hq hr =
+    let x : List ℕ = taken ps a c in
+    let y : List ℕ = taken ps b d in
+    let lx : length x ≡ 16 = length-map ps (λ p. get_or (a ++ c) p 0) ∙ lp in
+    let ly : length y ≡ 16 = length-map ps (λ p. get_or (b ++ d) p 0) ∙ lp in
+    let all : List ℕ = taken qs x y in
+    let e0 : 4 * q + 0 ≡ 2 * (2 * q + 0) + 0 = omega arith in
+    let e1 : 4 * q + 1 ≡ 2 * (2 * q + 0) + 1 = omega arith in
+    let e2 : 4 * q + 2 ≡ 2 * (2 * q + 1) + 0 = omega arith in
+    let e3 : 4 * q + 3 ≡ 2 * (2 * q + 1) + 1 = omega arith in
+    let first : 2 * e + (2 * q + 0) ≡ 2 * (e + q) + 0 = omega arith in
+    let second : 2 * e + (2 * q + 1) ≡ 2 * (e + q) + 1 = omega arith in
+    four_cases (λ r. get_or all (4 * q + r) 0 ≡ get_or (get_or (a ∷ b ∷ c ∷ d ∷ []) r []) (o + (e + q)) 0)
+    (ap (λ (i : ℕ). get_or all i 0) e0 ∙ turn x y qs (2 * e) (2 * q + 0) 0 lx ly lq (omega arith) (omega arith) (omega arith) tq
+    ∙ ap (λ (i : ℕ). get_or x i 0) first ∙ turn a c ps o (e + q) 0 ha hc lp (omega arith) (omega arith) (omega arith) tp)
+    (ap (λ (i : ℕ). get_or all i 0) e1 ∙ turn x y qs (2 * e) (2 * q + 0) 1 lx ly lq (omega arith) (omega arith) (omega arith) tq
+    ∙ ap (λ (i : ℕ). get_or y i 0) first ∙ turn b d ps o (e + q) 0 hb hd lp (omega arith) (omega arith) (omega arith) tp)
+    (ap (λ (i : ℕ). get_or all i 0) e2 ∙ turn x y qs (2 * e) (2 * q + 1) 0 lx ly lq (omega arith) (omega arith) (omega arith) tq
+    ∙ ap (λ (i : ℕ). get_or x i 0) second ∙ turn a c ps o (e + q) 1 ha hc lp (omega arith) (omega arith) (omega arith) tp)
+    (ap (λ (i : ℕ). get_or all i 0) e3 ∙ turn x y qs (2 * e) (2 * q + 1) 1 lx ly lq (omega arith) (omega arith) (omega arith) tq
+    ∙ ap (λ (i : ℕ). get_or y i 0) second ∙ turn b d ps o (e + q) 1 hb hd lp (omega arith) (omega arith) (omega arith) tp) r hr
+
+-- four lists with four lanes of each vector in turn
+abbrev pub woven_lists : List ℕ → List ℕ → List ℕ → List ℕ → List (List ℕ)
+woven_lists a b c d =
+    taken front_places (taken front_places a c) (taken front_places b d)
+    ∷ taken back_places (taken front_places a c) (taken front_places b d)
+    ∷ taken front_places (taken back_places a c) (taken back_places b d)
+    ∷ taken back_places (taken back_places a c) (taken back_places b d) ∷ []
 
 pub woven_lane : (a b c d : List ℕ) → length a ≡ 16 → length b ≡ 16 → length c ≡ 16 → length d ≡ 16 → (p r : ℕ) → p < 16
-    → r < 4 → get_or (map (λ i. get_or (in_turn a c ++ in_turn b d) i 0) BOTH_IN_TURN) (4 * p + r) 0
+    → r < 4 → get_or (get_or (woven_lists a b c d) (p / 4) []) (4 * (p % 4) + r) 0
     ≡ get_or (get_or (a ∷ b ∷ c ∷ d ∷ []) r []) p 0
 woven_lane a b c d ha hb hc hd p r hp hr =
-    let all : List ℕ = map (λ i. get_or (in_turn a c ++ in_turn b d) i 0) BOTH_IN_TURN in
-    let outer = λ (i e : ℕ) (hi : i < 32) (he : e < 2).
-    turn (in_turn a c) (in_turn b d) BOTH_IN_TURN 32 64 i e refl refl refl refl hi he refl in
-    let e0 : 4 * p + 0 ≡ 2 * (2 * p + 0) + 0 = omega arith in
-    let e1 : 4 * p + 1 ≡ 2 * (2 * p + 0) + 1 = omega arith in
-    let e2 : 4 * p + 2 ≡ 2 * (2 * p + 1) + 0 = omega arith in
-    let e3 : 4 * p + 3 ≡ 2 * (2 * p + 1) + 1 = omega arith in
-    four_cases (λ r. get_or all (4 * p + r) 0 ≡ get_or (get_or (a ∷ b ∷ c ∷ d ∷ []) r []) p 0)
-    (ap (λ (i : ℕ). get_or all i 0) e0 ∙ outer (2 * p + 0) 0 (omega arith) (omega arith)
-    ∙ turn a c IN_TURN 16 32 p 0 ha hc refl refl hp (omega arith) refl)
-    (ap (λ (i : ℕ). get_or all i 0) e1 ∙ outer (2 * p + 0) 1 (omega arith) (omega arith)
-    ∙ turn b d IN_TURN 16 32 p 0 hb hd refl refl hp (omega arith) refl)
-    (ap (λ (i : ℕ). get_or all i 0) e2 ∙ outer (2 * p + 1) 0 (omega arith) (omega arith)
-    ∙ turn a c IN_TURN 16 32 p 1 ha hc refl refl hp (omega arith) refl)
-    (ap (λ (i : ℕ). get_or all i 0) e3 ∙ outer (2 * p + 1) 1 (omega arith) (omega arith)
-    ∙ turn b d IN_TURN 16 32 p 1 hb hd refl refl hp (omega arith) refl) r hr
+    let q : ℕ = p % 4 in
+    let hq : q < 4 = omega arith in
+    let four : List (List ℕ) = woven_lists a b c d in
+    let source : List ℕ = get_or (a ∷ b ∷ c ∷ d ∷ []) r [] in
+    let whole : 4 * (p / 4) + q ≡ p = omega arith in
+    let e0 : 0 + (0 + q) ≡ 4 * 0 + q = omega arith in
+    let e1 : 0 + (4 + q) ≡ 4 * 1 + q = omega arith in
+    let e2 : 8 + (0 + q) ≡ 4 * 2 + q = omega arith in
+    let e3 : 8 + (4 + q) ≡ 4 * 3 + q = omega arith in
+    four_cases (λ i. get_or (get_or four i []) (4 * q + r) 0 ≡ get_or source (4 * i + q) 0)
+    (woven_part front_places front_places 0 0 a b c d ha hb hc hd refl refl (omega arith) (omega arith) refl refl q r hq hr
+    ∙ ap (λ (i : ℕ). get_or source i 0) e0)
+    (woven_part front_places back_places 0 4 a b c d ha hb hc hd refl refl (omega arith) (omega arith) refl refl q r hq hr
+    ∙ ap (λ (i : ℕ). get_or source i 0) e1)
+    (woven_part back_places front_places 8 0 a b c d ha hb hc hd refl refl (omega arith) (omega arith) refl refl q r hq hr
+    ∙ ap (λ (i : ℕ). get_or source i 0) e2)
+    (woven_part back_places back_places 8 4 a b c d ha hb hc hd refl refl (omega arith) (omega arith) refl refl q r hq hr
+    ∙ ap (λ (i : ℕ). get_or source i 0) e3)
+    (p / 4) (omega arith)
+    ∙ ap (λ (i : ℕ). get_or source i 0) whole
 
 -- the planes j of four rows are plane j of each row
 pub row_plane : (column : List (List (List ℕ))) (j r : ℕ) → r < 4

@@ -441,7 +441,7 @@ impl<C: Count> Counter<C> {
         let _first = self.first.bytes();
         let block = C::block(&self.first, self.block_count);
         let mut base = [u8x16::splat(0); 8];
-        let mut columns = [[0; 64]; 8];
+        let mut columns = [[[0; 16]; 4]; 8];
         share_round(&mut base, &mut columns, key, words, block.bytes(), C::LOW);
         let mut done = 0;
         'runs: while done < bytes.len() {

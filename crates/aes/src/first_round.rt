@@ -22,19 +22,6 @@ const EIGHTS: [u8; 32] = [
     176, 184, 192, 200, 208, 216, 224, 232, 240, 248,
 ];
 
-// The lanes of two vectors of 16 lanes in turn.
-const IN_TURN: [usize; 32] = [
-    0, 16, 1, 17, 2, 18, 3, 19, 4, 20, 5, 21, 6, 22, 7, 23, 8, 24, 9, 25, 10, 26, 11, 27, 12, 28,
-    13, 29, 14, 30, 15, 31,
-];
-
-// The lanes of two vectors of 32 lanes in turn.
-const BOTH_IN_TURN: [usize; 64] = [
-    0, 32, 1, 33, 2, 34, 3, 35, 4, 36, 5, 37, 6, 38, 7, 39, 8, 40, 9, 41, 10, 42, 11, 43, 12, 44,
-    13, 45, 14, 46, 15, 47, 16, 48, 17, 49, 18, 50, 19, 51, 20, 52, 21, 53, 22, 54, 23, 55, 24, 56,
-    25, 57, 26, 58, 27, 59, 28, 60, 29, 61, 30, 62, 31, 63,
-];
-
 // Lane l of 8 lanes at place 4 l, with lane 8 of both vectors, a zero, at the others.
 const FIRST_COLUMNS: [usize; 32] = [
     0, 8, 8, 8, 1, 8, 8, 8, 2, 8, 8, 8, 3, 8, 8, 8, 4, 8, 8, 8, 5, 8, 8, 8, 6, 8, 8, 8, 7, 8, 8, 8,
@@ -66,6 +53,10 @@ fn numbers(first: u8, key: u8) -> HalfPlanes
     ]))
 }
 
+// What the bytes that differ add to the first columns of 128 states, for each bit of a byte: four lists, of which list p / 4 has, at bit
+// k of its byte 4 (p mod 4) + r, what byte 8 p + k adds to row r.
+pub(crate) type Columns = [[[u8; 16]; 4]; 8];
+
 // What MixColumns adds to each row of a column for these values of the byte in the row of the byte at `place`.
 #[inline(always)]
 fn column_of(once: HalfPlanes, place: usize) -> [HalfPlanes; 4]
@@ -82,50 +73,59 @@ fn column_of(once: HalfPlanes, place: usize) -> [HalfPlanes; 4]
     }
 }
 
-// The lanes of four vectors in turn.
+// Writes the lanes. By `to_array` they would be written one by one.
 #[inline(always)]
-fn woven(a: u8x16, b: u8x16, c: u8x16, d: u8x16) -> [u8; 64]
-    ensures { (p r : ℕ) → p < 16 → r < 4
-        → slice_index result (4 * p + r) ≡ slice_index (slice_index_or (a ∷ b ∷ c ∷ d ∷ []) r []) p }
+fn write(list: &mut [u8; 16], lanes: u8x16)
+    ensures { list.new ≡ lanes }
 {
-    a.shuffle(c, IN_TURN)
-        .shuffle(b.shuffle(d, IN_TURN), BOTH_IN_TURN)
-        .to_array()
+    lanes.copy_to_slice(list);
 }
 
-// The planes of four rows of a column, byte by byte in turn.
+// Writes the lanes of four vectors in turn, four of each in each list.
 #[inline(always)]
-fn weave(column: [HalfPlanes; 4]) -> [[u8; 64]; 8]
+fn weave(lists: &mut [[u8; 16]; 4], a: u8x16, b: u8x16, c: u8x16, d: u8x16)
+    ensures { (p r : ℕ) → p < 16 → r < 4 → slice_index (slice_index_or lists.new (p / 4) []) (4 * (p % 4) + r)
+        ≡ slice_index (slice_index_or (a ∷ b ∷ c ∷ d ∷ []) r []) p }
+{
+    let (front, back) = a.interleave(c);
+    let (other_front, other_back) = b.interleave(d);
+    let (first, second) = front.interleave(other_front);
+    let (third, fourth) = back.interleave(other_back);
+    write(&mut lists[0], first);
+    write(&mut lists[1], second);
+    write(&mut lists[2], third);
+    write(&mut lists[3], fourth);
+}
+
+// Writes the planes of four rows of a column, byte by byte in turn.
+#[inline(always)]
+fn weave_planes(columns: &mut Columns, column: [HalfPlanes; 4])
     ensures { (h : ℕ → ℕ → ℕ) → ((r : ℕ) → r < 4 → HoldsLanes 16 (slice_index_or column r []) (λ l k. h r (8 * l + k)))
-        → HoldsColumns result h }
+        → HoldsColumns columns.new h }
 {
     let [a, b, c, d] = column;
-    [
-        woven(a[0], b[0], c[0], d[0]),
-        woven(a[1], b[1], c[1], d[1]),
-        woven(a[2], b[2], c[2], d[2]),
-        woven(a[3], b[3], c[3], d[3]),
-        woven(a[4], b[4], c[4], d[4]),
-        woven(a[5], b[5], c[5], d[5]),
-        woven(a[6], b[6], c[6], d[6]),
-        woven(a[7], b[7], c[7], d[7]),
-    ]
+    weave(&mut columns[0], a[0], b[0], c[0], d[0]);
+    weave(&mut columns[1], a[1], b[1], c[1], d[1]);
+    weave(&mut columns[2], a[2], b[2], c[2], d[2]);
+    weave(&mut columns[3], a[3], b[3], c[3], d[3]);
+    weave(&mut columns[4], a[4], b[4], c[4], d[4]);
+    weave(&mut columns[5], a[5], b[5], c[5], d[5]);
+    weave(&mut columns[6], a[6], b[6], c[6], d[6]);
+    weave(&mut columns[7], a[7], b[7], c[7], d[7]);
 }
 
-// Bytes 8 `run` to 8 `run` + 7 of a list, each in the first lane of a row.
+// Eight bytes of four lists of 16, from byte 8 `run` on, each in the first lane of a row.
 #[inline(always)]
-fn first_lanes(list: &[u8; 64], run: usize) -> u8x32
+fn first_lanes(lists: &[[u8; 16]; 4], run: usize) -> u8x32
     requires { run < 8 }
     ensures long { length result ≡ 32 }
-    ensures each { (l : ℕ) → l < 32
-        → slice_index result l ≡ if l % 4 == 0 then slice_index list.now (8 * run + l / 4) else 0 }
+    ensures each { (l : ℕ) → l < 32 → slice_index result l ≡ if l % 4 == 0
+        then slice_index (slice_index_or lists.now (run / 2) []) (8 * (run % 2) + l / 4) else 0 }
 {
-    u8x8::from_slice(&list[8 * run..8 * run + 8]).shuffle(u8x8::splat(0), FIRST_COLUMNS)
+    let list = &lists[run / 2];
+    let from = 8 * (run % 2);
+    u8x8::from_slice(&list[from..from + 8]).shuffle(u8x8::splat(0), FIRST_COLUMNS)
 }
-
-// What the bytes that differ add to the first columns of 128 states. Bit k of byte 4 p + r of list j is bit j of what byte 8 p + k adds
-// to row r.
-pub(crate) type Columns = [[u8; 64]; 8];
 
 // The first round of 128 blocks that count on from this one in the byte at `place`. Their states differ in the first column alone:
 // `base` becomes the state, in planes, if the S-box makes 0 of that byte, and `columns` what it adds to the first columns.
@@ -152,7 +152,7 @@ pub(crate) fn share_round(
     start[place] = 0;
     *base = round(spread(rows(u8x16::from_array(start))), unpack(&keys[1]));
     let once = numbers(block[place], first_key[place]).substitute();
-    *columns = weave(column_of(once, place));
+    weave_planes(columns, column_of(once, place));
 }
 
 // The states of blocks 16 `run` to 16 `run` + 15 after the first round.

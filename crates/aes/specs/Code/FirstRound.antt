@@ -10,13 +10,14 @@ use Rattle.aes.specs.Code.Planes.{HoldsEight}
 abbrev pub share : ℕ → ℕ → ℕ → ℕ
 share place r s = times (slice_index (slice_index_or matrix r []) (place % 4)) s
 
--- bit k of byte 4 p + r of list j is bit j of h r (8 p + k)
-pub record HoldsColumns (lists : List (List ℕ)) (h : ℕ → ℕ → ℕ) : Type 0 where
+-- bit k of byte 4 (p mod 4) + r of list p / 4 of lists j is bit j of h r (8 p + k)
+pub record HoldsColumns (lists : List (List (List ℕ))) (h : ℕ → ℕ → ℕ) : Type 0 where
   pub each : (j p r k : ℕ) → j < 8 → p < 16 → r < 4 → k < 8
-      → bit_at (slice_index (slice_index_or lists j []) (4 * p + r)) k ≡ bit_at (h r (8 * p + k)) j
+      → bit_at (slice_index (slice_index_or (slice_index_or lists j []) (p / 4) []) (4 * (p % 4) + r)) k
+      ≡ bit_at (h r (8 * p + k)) j
 
 -- the first `count` of the states f 0, f 1 .. are one base, with one column of each added to its first column
-pub record Shares (planes lists : List (List ℕ)) (f : ℕ → List ℕ) (count : ℕ) : Type 0 where
+pub record Shares (planes : List (List ℕ)) (lists : List (List (List ℕ))) (f : ℕ → List ℕ) (count : ℕ) : Type 0 where
   pub base : List ℕ
   pub column : ℕ → ℕ → ℕ
   pub base_is : HoldsEight planes (λ q. base)

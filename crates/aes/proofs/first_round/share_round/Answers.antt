@@ -37,7 +37,7 @@ returns c = λ f count blocks steps.
           (same_bytes c.spread.result c.spread.ensures (λ l k hl hk. c.rows.ensures l hl))
           (same_bytes _ (c.unpack.ensures (λ l k. masked_byte ws 1 (spot l)) (c.requires.ready.middle 1 (omega arith) (omega arith)))
           (λ l k hl hk. dropped_row ws 1 l));
-      columns_are = c.weave.ensures column
+      columns_are = c.weave_planes.ensures column
           (c.column_of.ensures (λ l k. linear_sbox (value (8 * l + k))) (λ l k. linear_small (value (8 * l + k)) (small (8 * l + k)))
           (c.substitute-once.ensures (λ l k. value (8 * l + k)) (λ l k. small (8 * l + k)) c.numbers.ensures));
       sums = λ n i hn hi.

@@ -13,7 +13,7 @@ returns c = λ f count shares room.
     let all : List (List ℕ) =
     c.first_lanes.result ∷ c.first_lanes-2.result ∷ c.first_lanes-3.result ∷ c.first_lanes-4.result
     ∷ c.first_lanes-5.result ∷ c.first_lanes-6.result ∷ c.first_lanes-7.result ∷ c.first_lanes-8.result ∷ [] in
-    let lists : List (List ℕ) = c.args.columns.now in
+    let list : ℕ → ℕ → ℕ = λ j l. get_or (get_or (get_or c.args.columns.now j []) (run / 2) []) (8 * (run % 2) + l / 4) 0 in
     let firsts : HoldsBits all first = record {
       count = refl;
       long = eight_cases (λ j. length (get_or all j []) ≡ 32) c.first_lanes.ensures.long c.first_lanes-2.ensures.long
@@ -22,16 +22,17 @@ returns c = λ f count shares room.
       each = λ j l k hj hl hk.
           let p : ℕ = 2 * run + l / 16 in
           let r : ℕ = l % 16 / 4 in
-          let place : 8 * run + l / 4 ≡ 4 * p + r = omega arith in
+          let place : 8 * (run % 2) + l / 4 ≡ 4 * (p % 4) + r = omega (arith, hl) in
+          let half : run / 2 ≡ p / 4 = omega (arith, hl) in
           let number : 8 * p + k ≡ 16 * run + (l / 16 * 8 + k) = omega arith in
           ap (λ (x : ℕ). bit_at x k)
-          (eight_cases (λ j. get_or (get_or all j []) l 0 ≡ cond (l % 4 == 0) (get_or (get_or lists j []) (8 * run + l / 4) 0) 0)
+          (eight_cases (λ j. get_or (get_or all j []) l 0 ≡ cond (l % 4 == 0) (list j l) 0)
           (c.first_lanes.ensures.each l hl) (c.first_lanes-2.ensures.each l hl) (c.first_lanes-3.ensures.each l hl)
           (c.first_lanes-4.ensures.each l hl) (c.first_lanes-5.ensures.each l hl) (c.first_lanes-6.ensures.each l hl)
           (c.first_lanes-7.ensures.each l hl) (c.first_lanes-8.ensures.each l hl) j hj)
-          ∙ chosen_bit (l % 4 == 0) (get_or (get_or lists j []) (8 * run + l / 4) 0)
+          ∙ chosen_bit (l % 4 == 0) (list j l)
           (shares.column r (16 * run + (l / 16 * 8 + k))) j k
-          (ap (λ (i : ℕ). bit_at (get_or (get_or lists j []) i 0) k) place
+          (ap₂ (λ (h i : ℕ). bit_at (get_or (get_or (get_or c.args.columns.now j []) h []) i 0) k) half place
           ∙ shares.columns_are.each j p r k hj (omega (arith, c.requires)) (omega arith) hk
           ∙ ap (λ (n : ℕ). bit_at (shares.column r n) j) number);
     } in
