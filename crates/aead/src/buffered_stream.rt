@@ -5,7 +5,7 @@ ghost use Rattle.std.specs.Prelude.{◌≡◌, ◌+◌, ◌%◌, ◌<◌, ◌≤
 ghost use Rattle.chacha.specs.Stream.{key_stream_byte};
 
 use crate::hashes::TagHash;
-use crate::interleaved::pays;
+use crate::interleaved::{mask_and_hash, pays};
 use crate::mask::MaskStream;
 use crate::step::MaskWith;
 use chacha::ChaStream;
@@ -58,12 +58,7 @@ impl<'a> BufferedStream<'a> {
         let (first, _) = piece.split_at_mut(n);
         xor_into(first, &self.start[self.used..self.used + n]);
         self.used += n;
-        let whole = piece.len() / 16 * 16;
-        let mut partial = hash.partial_sum();
-        self.rest.apply_and_hash(piece, n, &mut partial);
-        let sum = partial.sum;
-        hash.set_sum(sum);
-        hash.update(&piece[whole..]);
+        mask_and_hash(&mut self.rest, hash, piece, n);
     }
 }
 

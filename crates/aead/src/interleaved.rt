@@ -1,6 +1,7 @@
 //! ChaCha20 and Poly1305 interleaved: a piece is masked while it is hashed, in one loop (RFC 8439, 2.8).
 
-ghost use Rattle.std.specs.Prelude.{◌≡◌, ℕ, ◌%◌, List, length, true};
+ghost use Rattle.std.specs.Prelude.{◌≡◌, ℕ, ◌%◌, ◌≤◌, List, length, take, drop, true};
+ghost use Rattle.chacha.specs.Code.States.{Did};
 ghost use Rattle.aead.specs.Sealing.{Setting};
 ghost use Rattle.aead.specs.Code.Masks.{Masks, Takes};
 ghost use Rattle.aead.specs.Code.States.{HeldByPoly, MadeByChaCha};
@@ -21,17 +22,19 @@ pub(crate) fn pays(hash: &Poly, ready: usize, count: usize) -> bool
     interleaving_pays(ready, count) && hash.rest().is_empty()
 }
 
-// Masks a piece and hashes it as it leaves. This is a separate function, as the next one is, since its frame would slow down short
-// pieces.
+// Masks a piece after its first `begun` bytes, which are masked, and hashes all of it as it leaves. This is a separate function, as
+// the next one is, since its frame would slow down short pieces.
 #[inline(never)]
-fn mask_and_hash(mask: &mut ChaStream, hash: &mut Poly, piece: &mut [u8])
-    requires { (s : Setting) (m : List ℕ) → HeldByPoly hash.old s m → length m % 16 ≡ 0 }
-    ensures masks { Masks MadeByChaCha mask.old mask.new piece.old piece.new }
+pub(crate) fn mask_and_hash(mask: &mut ChaStream, hash: &mut Poly, piece: &mut [u8], begun: usize)
+    requires begun { begun ≤ length piece.old }
+    requires whole { (s : Setting) (m : List ℕ) → HeldByPoly hash.old s m → length m % 16 ≡ 0 }
+    ensures did { Did mask.old mask.new (drop begun piece.old) (drop begun piece.new) }
+    ensures begun { take begun piece.new ≡ take begun piece.old }
     ensures takes { Takes HeldByPoly hash.old hash.new piece.new }
 {
     let whole = piece.len() / 16 * 16;
     let mut partial = hash.partial_sum();
-    mask.apply_and_hash(piece, 0, &mut partial);
+    mask.apply_and_hash(piece, begun, &mut partial);
     let sum = partial.sum;
     hash.set_sum(sum);
     hash.update(&piece[whole..]);
@@ -45,19 +48,20 @@ fn hash_and_mask(mask: &mut ChaStream, hash: &mut Poly, piece: &mut [u8])
     ensures takes { Takes HeldByPoly hash.old hash.new piece.old }
 {
     let whole = piece.len() / 16 * 16;
+    let count = piece.len() - whole;
     let rest = padded(&piece[whole..]);
     let mut partial = hash.partial_sum();
     mask.hash_and_apply(piece, &mut partial);
     let sum = partial.sum;
     hash.set_sum(sum);
-    hash.update(&rest[..piece.len() - whole]);
+    hash.update(&rest[..count]);
 }
 
 impl MaskWith<Poly> for ChaStream {
     #[inline(always)]
     fn mask_first(&mut self, hash: &mut Poly, piece: &mut [u8]) {
         if pays(hash, 0, piece.len()) {
-            mask_and_hash(self, hash, piece);
+            mask_and_hash(self, hash, piece, 0);
             return;
         }
         self.apply_to(piece);

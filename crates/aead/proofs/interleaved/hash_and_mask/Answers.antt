@@ -17,12 +17,10 @@ returns-clause-takes c = λ s m h.
     let n : ℕ = length x / 16 * 16 in
     let r : List ℕ = take (length x - n) (drop n x) in
     let blocks = c.hash_and_apply.ensures.hashed k m (c.partial_sum-partial.ensures k m h.1 (c.requires s m h)) in
-    let long : length c.hash_and_apply.new.bytes - n ≡ length r =
-    ap (λ (j : ℕ). j - n) c.hash_and_apply.auto.bytes
-    ∙ sym (length-take-le (length x - n) (drop n x) (omega (arith, length-drop n x))) in
-    let rest : take (length c.hash_and_apply.new.bytes - n) c.padded-rest.result ≡ r =
-    ap (take (length c.hash_and_apply.new.bytes - n)) c.padded-rest.ensures
-    ∙ ap (λ (j : ℕ). take j (r ++ replicate (16 - length r) 0)) long
+    let rest : take (length x - n) c.padded-rest.result ≡ r =
+    ap (take (length x - n)) c.padded-rest.ensures
+    ∙ ap (λ (j : ℕ). take j (r ++ replicate (16 - length r) 0))
+    (sym (length-take-le (length x - n) (drop n x) (omega (arith, length-drop n x))))
     ∙ take-append_seam r (replicate (16 - length r) 0) in (
       h.0,
       subst (Holds c.update.new.self k)
