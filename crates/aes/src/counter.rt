@@ -197,7 +197,7 @@ const SIXTEEN_PAY: usize = if WIDE { 96 } else { 64 };
 const EIGHT_PAY: usize = if WIDE { 0 } else { 192 };
 
 // From this many runs of sixteen blocks on, it pays to share their first round.
-const SHARED_PAY: usize = 3;
+const SHARED_PAY: usize = if WIDE { 4 } else { 3 };
 
 // How many of the remaining bytes the next run masks.
 #[inline(always)]
