@@ -1,6 +1,8 @@
 //! AES and its streams of counter blocks.
+ghost use Rattle.std.specs.Prelude.{◌<◌};
+
 use super::shows;
-use aes::{AesKey, CtrBe, CtrLe};
+use aes::{AesKey, Count, Ctr, CtrBe, CtrLe, FirstFour, LastFour};
 use octets::{Block, Key16, Key24, Key32};
 
 // A key of n bytes is the first n of these bytes.
@@ -75,4 +77,37 @@ fn zeros_before_the_last_twelve(rt: HostRuntime) {
     CtrLe::new(&key, &Block::new(first)).apply(&mut bytes);
     let due = key.encrypt_four(&blocks);
     shows(&rt, due.starts_with(&bytes), "two blocks");
+}
+
+// The first bytes of a stream, taken in pieces of this length.
+fn in_pieces<C: Count>(key: &AesKey, first: &Block, length: usize) -> [u8; 3088]
+    requires { 0 < length }
+{
+    let mut bytes = [0; 3088];
+    let mut stream: Ctr<C> = Ctr::new(key, first);
+    for piece in bytes.chunks_mut(length) {
+        stream.apply(piece);
+    }
+    bytes
+}
+
+// Pieces of four blocks are made block by block; 128 blocks, and one more, in runs of sixteen that share their first round while the
+// counter's low byte does not pass 255.
+#[test]
+fn streams_in_pieces(rt: HostRuntime) {
+    let key = AesKey::from_slice(&BYTES).expect(&rt, "a key");
+    for low in 0..255 {
+        let mut first = TEXT;
+        first[0] = low;
+        first[15] = low;
+        let block = Block::new(first);
+        let due = in_pieces::<LastFour>(&key, &block, 64);
+        let shared = in_pieces::<LastFour>(&key, &block, 2048);
+        shows(&rt, due.starts_with(&shared), "128 blocks");
+        let shared = in_pieces::<LastFour>(&key, &block, 2064);
+        shows(&rt, due.starts_with(&shared), "129 blocks");
+        let due = in_pieces::<FirstFour>(&key, &block, 64);
+        let shared = in_pieces::<FirstFour>(&key, &block, 3088);
+        shows(&rt, due.starts_with(&shared), "193 blocks");
+    }
 }
