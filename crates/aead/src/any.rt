@@ -50,7 +50,7 @@ pub(crate) fn gcm_keys<'a>(
     ensures { (aad : List ℕ) → let s = setting cipher.now nonce.now aad in
         AreKeysOf result s × MasksByBytes s × (is_one_pass (construction_of s.suite) ≡ true) }
 {
-    let (key, _, _) = cipher.keys();
+    let (key, _) = cipher.keys();
     MessageKeys {
         cipher: CipherKeys::Gcm(AesKeys::Expanded(ExpandedKey { key, multiplier })),
         nonce: *nonce.bytes(),
@@ -69,7 +69,7 @@ impl AnyOnePass {
                 nonce: *nonce.bytes(),
             },
             AnyOnePass::Gcm(cipher) => {
-                let (_, _, multiplier) = cipher.keys();
+                let (_, multiplier) = cipher.keys();
                 gcm_keys(cipher, nonce, LentMul::Table(multiplier))
             }
         }
@@ -85,8 +85,9 @@ impl AnyOnePass {
                 PassState::initial(&PolyKeys, one_time_key(cipher.key(), nonce), aad)
             }
             AnyOnePass::Gcm(cipher) => {
-                let (key, ghash_key, _) = cipher.keys();
-                aes_pass::initial_state::<GhashOrder>(message_secret(key, ghash_key, nonce), aad)
+                let (key, multiplier) = cipher.keys();
+                let secret = message_secret(key, &multiplier.key(), nonce);
+                aes_pass::initial_state::<GhashOrder>(secret, aad)
             }
         }
     }

@@ -29,7 +29,6 @@ use std::marker::Model;
 #[derive(Drop)]
 pub struct Gcm {
     key: AesKey,
-    ghash_key: Block,
     multiplier: TableMul,
     // Behind the key: before it, the bytes between them make LLVM move the key twice.
     suite: Suite,
@@ -40,7 +39,7 @@ impl Model for Gcm {
 
     ghost view = { λ c. record { suite = c.suite; key = c.key } };
 
-    ghost invariant = { λ c. (construction_of c.suite ≡ ByGcm) × (c.ghash_key ≡ hash_key c.key)
+    ghost invariant = { λ c. (construction_of c.suite ≡ ByGcm)
         × (⟦<TableMul as Multiply>⟧.key_bytes c.multiplier ≡ hash_key c.key) × IsKey c.key };
 }
 
@@ -51,11 +50,10 @@ impl Gcm {
         requires { construction_of suite ≡ ByGcm }
         ensures { result ≡ record { suite = suite; key = key } }
     {
-        let ghash_key = hash_subkey(&key);
+        let multiplier = TableMul::of(&hash_subkey(&key));
         Gcm {
             key,
-            ghash_key,
-            multiplier: TableMul::of(&ghash_key),
+            multiplier,
             suite,
         }
     }
@@ -72,15 +70,14 @@ impl Gcm {
         }
     }
 
-    // Returns the key, the hash key and the multiplier that the cipher holds.
-    pub(crate) fn keys(&self) -> (&AesKey, &Block, &TableMul)
+    // Returns the key and the multiplier that the cipher holds.
+    pub(crate) fn keys(&self) -> (&AesKey, &TableMul)
         ensures key { result.0.now ≡ self.now.key }
-        ensures hash_key { result.1.now ≡ hash_key result.0.now }
-        ensures multiplier { ⟦<TableMul as Multiply>⟧.key_bytes result.2.now ≡ hash_key self.now.key }
+        ensures multiplier { ⟦<TableMul as Multiply>⟧.key_bytes result.1.now ≡ hash_key self.now.key }
         ensures by { construction_of self.now.suite ≡ ByGcm }
         ensures is_key { IsKey self.now.key }
     {
-        (&self.key, &self.ghash_key, &self.multiplier)
+        (&self.key, &self.multiplier)
     }
 
     // Returns a multiplier by the hash key for a long text. This is inlined, since it would be moved.
@@ -88,7 +85,9 @@ impl Gcm {
     pub(crate) fn wide_multiplier(&self) -> WideMul
         ensures { ⟦<WideMul as Multiply>⟧.key_bytes result ≡ hash_key self.now.key }
     {
-        WideMul::of(&self.ghash_key)
+        let mut multiplier = WideMul::none();
+        multiplier.set_table(&self.multiplier);
+        multiplier
     }
 }
 

@@ -11,7 +11,7 @@ use crate::polynomial_word::{block_of, word_of};
 use crate::tables::PlainMultiples;
 use crate::wide_mul::times_many;
 use crate::{Keyed128, Multiply};
-use octets::{Block, WIDE};
+use octets::{Block, WIDE, be_bytes};
 
 // From this many blocks on, it is faster to make the multiples of three more powers of the key and take four blocks at a time.
 const MANY: usize = if WIDE { 16 } else { 44 };
@@ -84,6 +84,14 @@ impl TableMul {
         ensures { self.new.word ≡ word }
     {
         *self = TableMul::of_word(word);
+    }
+
+    /// Returns the key.
+    #[inline(always)]
+    pub fn key(&self) -> Block
+        ensures { result ≡ ⟦<TableMul as Multiply>⟧.key_bytes self.now }
+    {
+        Block::new(be_bytes(self.word))
     }
 
     /// Returns the multiples of the key as plain numbers, for [`PlainMul`].

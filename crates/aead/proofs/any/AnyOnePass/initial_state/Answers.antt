@@ -21,4 +21,4 @@ returns-in-Gcm c =
     let s = setting (one_pass_keyed c.args.self.now) c.args.nonce.now c.args.aad.now in
     let by = ap (λ k. construction_of (one_pass_keyed k).suite) c.in-Gcm.is ∙ c.keys.ensures.by in
     let is = ap (λ k. (one_pass_keyed k).key) c.in-Gcm.is in
-    c.initial_state.ensures s by (c.message_secret.ensures s (is ∙ sym c.keys.ensures.key) refl) refl c.requires
+    c.initial_state.ensures s by (c.message_secret-secret.ensures s (is ∙ sym c.keys.ensures.key) refl) refl c.requires
