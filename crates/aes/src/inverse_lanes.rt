@@ -185,7 +185,7 @@ pub(crate) fn middle_key(x: u8x16) -> [u8; 16]
     .to_array()
 }
 
-// Undoes the affine map of the S-box at each byte, and changes the byte into the basis.
+// Undoes the affine map of the S-box at each byte, and changes the byte into the basis. 0x12 is the map's constant 0x63 after both.
 #[inline(always)]
 fn undo_affine(x: u8x16) -> u8x16
     ensures { HasLanes 16 result (λ k. affine_undone (slice_index x k)) }

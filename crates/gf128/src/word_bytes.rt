@@ -124,8 +124,9 @@ impl WordBytes {
         self.xor(three)
     }
 
-    // The word times x^`count` in GHASH's field, fewer than 8: what falls out below is folded in. It is left to LLVM to inline
-    // this: were it always done, the body that makes all tables would be too long to be inlined itself, and they were copied.
+    // The word times x^`count` in GHASH's field: the bit of weight 2^127 is the coefficient of x^0, so this shifts down, and what
+    // falls out below is folded in. The callers want 1, 2 and 4. It is left to LLVM to inline this: were it always done, the body
+    // that makes all tables would be too long to be inlined itself, and the tables would be copied.
     pub(crate) fn times_power(self, count: u64) -> WordBytes
         requires some { 0 < count }
         requires within { count < 8 }

@@ -15,7 +15,8 @@ use crate::pieces::keys::{CipherKeys, MessageKeys};
 use crate::pieces::pass_state::PassState;
 use octets::{Fault, Intake, Outlet};
 
-// Decrypts, authenticates and gives a whole reading: the body of the measured length, the measured tag, and the end.
+// Decrypts and authenticates the body of a reading and gives it to the outlet, and then compares what is left with the measured tag
+// and the end. `Ok` alone is no valid sealing: the finding says what was found.
 pub(crate) fn pass_opening<I: Intake, O: Outlet>(
     keys: &MessageKeys,
     state: &PassState,
