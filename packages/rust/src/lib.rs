@@ -41,7 +41,7 @@
 //! pieces are wiped when they are dropped. The caller's slices, the stack, and the places that a key or a state was moved from
 //! are not.
 //!
-//! A call takes up to 12 KiB of stack in the library, or 16 KiB on AArch64, however long the text is.
+//! A call takes up to 12 KiB of stack in the library, however long the text is.
 //!
 //! The crate is `no_std`. Without its default feature `alloc` it has no calls that return vectors. The library calls
 //! `memcpy`, `memmove`, `memset` and `bcmp`, which the C library has. It is for Linux on x86-64 and AArch64, and the build for any
