@@ -83,6 +83,10 @@ pub trait Count {
 
     const LOW: usize;
 
+    // Whether the first block is made of the nonce alone. Under AES-GCM-SIV it is made of the tag, which is made of secrets: there no
+    // branch and no address depends on it.
+    const OF_NONCE: bool;
+
     // Returns the block that is `steps` after `first`.
     fn block(first: &Block, steps: u32) -> Block
         ensures { result ≡ up first.now steps };
@@ -108,6 +112,8 @@ impl Count for LastFour {
 
     const LOW: usize = 15;
 
+    const OF_NONCE: bool = true;
+
     ghost wraps = { up_be-wraps };
 
     fn block(first: &Block, steps: u32) -> Block {
@@ -131,6 +137,8 @@ impl Count for FirstFour {
     ghost LOW = { 0 };
 
     const LOW: usize = 0;
+
+    const OF_NONCE: bool = false;
 
     ghost wraps = { up_le-wraps };
 
@@ -478,13 +486,17 @@ impl<C: Count> Counter<C> {
         self.mask_part(key, words, bytes);
     }
 
-    // How many of the remaining bytes `mask_sixteen` masks next: more than one run only before the counter's byte at `LOW` passes 255.
+    // How many of the remaining bytes `mask_sixteen` masks next: more than one run only before the counter's byte at `LOW` passes 255,
+    // and only where a branch may depend on that byte.
     fn next_run(&self, left: usize) -> usize
         ensures within { result ≤ left }
         ensures some { 0 < left → 0 < result }
         ensures whole { result < left → result % 16 ≡ 0 }
         ensures can { 256 < result → CanShare C.up C.LOW self.now.first self.now.block_count result }
     {
+        if !C::OF_NONCE {
+            return run_of(left);
+        }
         C::counts_in_byte();
         let block = C::block(&self.first, self.block_count);
         let before = 256 - usize::from(block.bytes()[C::LOW]);
