@@ -21,7 +21,7 @@ pub(crate) struct BufferedStream<'a> {
     used: usize,
     rest: ChaStream,
     ghost in_range: { used ≤ length start.now },
-    ghost short: { length start.now ≤ 576 },
+    ghost short: { length start.now ≤ 512 },
 }
 
 impl<'a> BufferedStream<'a> {
@@ -33,7 +33,7 @@ impl<'a> BufferedStream<'a> {
     // No byte is used yet.
     pub(crate) fn new(key: &Key32, nonce: &Nonce, start: &'a [u8]) -> BufferedStream<'a>
         requires has_a_block { 64 ≤ length start.now }
-        requires short { length start.now ≤ 576 }
+        requires short { length start.now ≤ 512 }
         requires whole { length start.now % 64 ≡ 0 }
         requires start_is { (i : ℕ) → i < length start.now
             → slice_index start.now i ≡ key_stream_byte key.now nonce.now 0 i }

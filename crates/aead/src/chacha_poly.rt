@@ -1,7 +1,7 @@
 //! The cipher ChaCha20-Poly1305 (RFC 8439, 2.8). The block with counter 0 begins with the key of Poly1305, and the text is
 //! masked from counter 1 on.
 
-ghost use Rattle.std.specs.Prelude.{◌≡◌, ℕ, List, ◌-◌, ◌^◌, ◌%◌, ◌<◌, ◌≤◌, ◌++◌, length, take, slice_index, refl};
+ghost use Rattle.std.specs.Prelude.{◌≡◌, ℕ, List, ◌+◌, ◌-◌, ◌^◌, ◌%◌, ◌<◌, ◌≤◌, ◌++◌, length, take, slice_index, refl};
 ghost use Rattle.chacha.specs.Stream.{key_stream_byte};
 ghost use Rattle.aead.specs.Suites.{ByChaCha, construction_of, text_limit, aad_limit};
 ghost use Rattle.aead.specs.Sealing.{Setting, Opened, poly_key, tag_over};
@@ -11,14 +11,15 @@ ghost use Rattle.aead.specs.InPlace.{OpensInPlace};
 ghost use Rattle.aead.specs.declared.suite.Suite.TheVariants.{ChaCha20Poly1305};
 
 use crate::aead::Aead;
+use crate::authenticator::Authenticator;
 use crate::buffered_stream::BufferedStream;
-use crate::one_pass::{OnePass, open_and_restore, open_whole, seal_whole};
+use crate::one_pass::{OnePass, open_and_restore, open_whole, seal_whole, tells_bytes};
 use crate::suite::Suite;
 use chacha::{
-    BlocksAtOnce, ChaStream, EightBlocks, FiveBlocks, FourBlocks, KeyStreamStart, NineBlocks,
-    SEVEN_BLOCKS, SixBlocks, ThreeBlocks, TwoBlocks, block,
+    BlocksAtOnce, ChaStream, EightBlocks, FiveBlocks, FourBlocks, KeyStreamStart, SEVEN_BLOCKS,
+    SixBlocks, ThreeBlocks, TwoBlocks, block,
 };
-use octets::{Block, Fault, Key32, Nonce, Tag};
+use octets::{Block, Fault, Key32, Nonce, Tag, same, xor_into};
 use poly1305::Poly;
 use std::marker::Model;
 
@@ -61,7 +62,11 @@ impl ChaChaPoly {
         let key = &self.key;
         let first = S::make(key, nonce);
         let start = first.blocks();
-        seal_whole(&BufferedChaCha { key, nonce, start }, aad, text)
+        let message = BufferedChaCha { key, nonce, start };
+        if text.len() <= start.len() - 64 {
+            return message.seal_short(aad, text);
+        }
+        seal_whole(&message, aad, text)
     }
 
     // Opens a ciphertext. The first blocks of the key stream are made together, as many as `S` says.
@@ -80,7 +85,11 @@ impl ChaChaPoly {
         let key = &self.key;
         let first = S::make(key, nonce);
         let start = first.blocks();
-        open_whole(&BufferedChaCha { key, nonce, start }, aad, body, tag)
+        let message = BufferedChaCha { key, nonce, start };
+        if body.len() <= start.len() - 64 {
+            return message.open_short(aad, body, tag);
+        }
+        open_whole(&message, aad, body, tag)
     }
 }
 
@@ -157,10 +166,56 @@ struct BufferedChaCha<'a> {
     nonce: &'a Nonce,
     start: &'a [u8],
     ghost has_a_block: { 64 ≤ length start.now },
-    ghost short: { length start.now ≤ 576 },
+    ghost short: { length start.now ≤ 512 },
     ghost whole: { length start.now % 64 ≡ 0 },
     ghost start_is: { (i : ℕ) → i < length start.now
         → slice_index start.now i ≡ key_stream_byte key.now nonce.now 0 i },
+}
+
+impl<'a> BufferedChaCha<'a> {
+    // Returns the tag over a ciphertext.
+    #[inline(always)]
+    fn tag_over(&self, aad: &[u8], body: &[u8]) -> Tag
+        requires aad_fits { length aad.now ≤ aad_limit ChaCha20Poly1305 }
+        requires body_fits { length body.now ≤ text_limit ChaCha20Poly1305 }
+        ensures { result ≡ tag_over ChaCha20Poly1305 self.now.key.now self.now.nonce.now aad.now body.now }
+    {
+        let mut authenticator = Authenticator::empty(self.hash());
+        authenticator.begin(aad);
+        authenticator.update(body);
+        hash_as_tag(&authenticator.digest())
+    }
+
+    // Seals a text that needs no more of the key stream than these blocks.
+    #[inline(always)]
+    fn seal_short(&self, aad: &[u8], text: &mut [u8]) -> Tag
+        requires aad_fits { length aad.now ≤ aad_limit ChaCha20Poly1305 }
+        requires text_fits { length text.old ≤ text_limit ChaCha20Poly1305 }
+        requires covers { 64 + length text.old ≤ length self.now.start.now }
+        ensures { Opened (setting (record { suite = ChaCha20Poly1305; key = self.now.key.now }) self.now.nonce.now aad.now)
+            (text.new ++ result) text.old }
+    {
+        tells_bytes(text);
+        xor_into(text, &self.start[64..64 + text.len()]);
+        self.tag_over(aad, text)
+    }
+
+    // Opens a ciphertext that needs no more of the key stream than these blocks.
+    #[inline(always)]
+    fn open_short(&self, aad: &[u8], body: &mut [u8], tag: &Tag) -> Result<(), Fault>
+        requires aad_fits { length aad.now ≤ aad_limit ChaCha20Poly1305 }
+        requires text_fits { length body.old ≤ text_limit ChaCha20Poly1305 }
+        requires covers { 64 + length body.old ≤ length self.now.start.now }
+        ensures { OpensInPlace (setting (record { suite = ChaCha20Poly1305; key = self.now.key.now }) self.now.nonce.now aad.now)
+            tag.now body.old body.new result }
+    {
+        let given = tag.bytes();
+        if !same(self.tag_over(aad, body).bytes(), given) {
+            return Err(Fault::TagMismatch);
+        }
+        xor_into(body, &self.start[64..64 + body.len()]);
+        Ok(())
+    }
 }
 
 impl<'a> OnePass for BufferedChaCha<'a> {
@@ -208,7 +263,6 @@ impl Aead for ChaChaPoly {
             BlocksAtOnce::Five => self.seal_from::<FiveBlocks>(nonce, aad, text),
             BlocksAtOnce::Six => self.seal_from::<SixBlocks>(nonce, aad, text),
             BlocksAtOnce::Eight => self.seal_from::<EightBlocks>(nonce, aad, text),
-            BlocksAtOnce::Nine => self.seal_from::<NineBlocks>(nonce, aad, text),
         }
     }
 
@@ -226,7 +280,6 @@ impl Aead for ChaChaPoly {
             BlocksAtOnce::Five => self.open_from::<FiveBlocks>(nonce, aad, body, tag),
             BlocksAtOnce::Six => self.open_from::<SixBlocks>(nonce, aad, body, tag),
             BlocksAtOnce::Eight => self.open_from::<EightBlocks>(nonce, aad, body, tag),
-            BlocksAtOnce::Nine => self.open_from::<NineBlocks>(nonce, aad, body, tag),
         }
     }
 

@@ -1,7 +1,7 @@
 //! The hashes of the constructions, of which their tags are made: Poly1305 (RFC 8439, 2.8), GHASH (SP 800-38D, 7.1) and POLYVAL
 //! (RFC 8452, 4).
 
-ghost use Rattle.std.specs.Prelude.{◌≡◌, ◌<◌, ◌*◌, ◌/◌, ◌++◌, ℕ, List, length, take, drop};
+ghost use Rattle.std.specs.Prelude.{◌≡◌, ◌<◌, ◌*◌, ◌/◌, ◌^◌, ◌++◌, ℕ, List, length, take, drop};
 ghost use Rattle.octets.specs.Bytes.{pad16};
 ghost use Rattle.gf128.specs.Orders.{Serves};
 ghost use Rattle.aead.specs.Suites.{ByChaCha, construction_of};
@@ -11,7 +11,7 @@ ghost use Rattle.aead.specs.Code.States.{HeldByPoly, HeldByBlocks, block_key, di
 
 use crate::rule::Rule;
 use gf128::{BlockHash, Multiply};
-use octets::{Block, joined};
+use octets::Block;
 use poly1305::Poly;
 use std::marker::PhantomData;
 
@@ -67,12 +67,20 @@ impl TagHash for Poly {
     }
 
     fn digest(&mut self, aad_length: u64, bytes_length: u64) -> Block {
-        self.pad16_and_add(&joined(&aad_length.to_le_bytes(), &bytes_length.to_le_bytes()));
+        self.pad16_and_add_two(aad_length, bytes_length);
         Block::new(*self.tag().bytes())
     }
 }
 
-// GHASH and POLYVAL.
+// Returns the number of bits in `bytes` bytes.
+#[inline(always)]
+fn bits(bytes: u64) -> u64
+    ensures { bytes < 2 ^ 61 → result ≡ 8 * bytes }
+{
+    bytes.wrapping_mul(8)
+}
+
+// GHASH and POLYVAL; the lengths are in bits, and stay numbers.
 impl<M: Multiply, R: Rule> TagHash for BlockHash<M, R> {
     ghost held = { HeldByBlocks R.Count.by R.order M.key_bytes };
 
@@ -95,7 +103,8 @@ impl<M: Multiply, R: Rule> TagHash for BlockHash<M, R> {
 
     #[inline(always)]
     fn digest(&mut self, aad_length: u64, bytes_length: u64) -> Block {
-        self.pad16_and_add(&R::lengths(aad_length, bytes_length));
+        R::ends_in_lengths();
+        self.pad16_and_add_two(bits(aad_length), bits(bytes_length));
         self.hash()
     }
 }

@@ -1,21 +1,20 @@
-//! What AES-GCM (SP 800-38D, 7) and AES-GCM-SIV (RFC 8452, 4) do not share: the order in which the hash reads the bytes of a block, how
-//! counter blocks count and with which the mask begins, and the block of both lengths.
+//! What AES-GCM (SP 800-38D, 7) and AES-GCM-SIV (RFC 8452, 4) do not share: the order in which the hash reads the bytes of a block, and
+//! how counter blocks count and with which the mask begins.
 
-ghost use Rattle.std.specs.Prelude.{◌≡◌, ◌<◌, ◌*◌, ◌^◌, ◌++◌, ℕ, List, length, take};
-ghost use Rattle.octets.specs.Bytes.{pad16};
-ghost use Rattle.gf128.specs.Orders.{Serves, hash_by};
+ghost use Rattle.std.specs.Prelude.{◌≡◌, ℕ, List, take};
+ghost use Rattle.gf128.specs.Orders.{Serves};
 ghost use Rattle.gf128.specs.Code.States.{IsSum};
-ghost use Rattle.aead.specs.Suites.{construction_of};
-ghost use Rattle.aead.specs.Sealing.{Setting, Fits};
+ghost use Rattle.aead.specs.Sealing.{Setting};
 ghost use Rattle.aead.specs.PassStates.{IsMessageSecret, IsSumOf};
-ghost use Rattle.aead.specs.Code.States.{block_key, first_counter, digest_over};
+ghost use Rattle.aead.specs.Code.States.{block_key, first_counter};
+ghost use Rattle.aead.specs.Code.Rules.{EndsInLengths};
 ghost use Rattle.aead.specs.Code.Rules.{gcm_serves, gcm_sums, gcm_is_sum, siv_serves, siv_sums, siv_is_sum};
 
 use crate::mask::MaskCount;
 use crate::{gcm, gcm_siv};
 use aes::{FirstFour, LastFour};
 use gf128::{GhashOrder, HashOrder, PolyvalOrder};
-use octets::{Block, Nonce, be_pair, joined};
+use octets::{Block, Nonce};
 
 // What the two constructions with AES do not share.
 pub(crate) trait Rule: HashOrder {
@@ -26,12 +25,9 @@ pub(crate) trait Rule: HashOrder {
     fn first_counter(nonce: &Nonce, tag: &[u8; 16]) -> Block
         ensures { result ≡ first_counter Self.Count.by nonce.now tag.now };
 
-    // Returns the block of both lengths in bits, with which the hash ends.
-    fn lengths(aad_length: u64, bytes_length: u64) -> [u8; 16]
-        ensures long { length result ≡ 16 }
-        ensures value { (s : Setting) (m : List ℕ) → construction_of s.suite ≡ Self.Count.by → Fits s m
-            → aad_length ≡ length s.aad → bytes_length ≡ length m
-            → hash_by Self.order (block_key Self.Count.by s) (pad16 (pad16 s.aad ++ m) ++ result) ≡ digest_over s m };
+    // A law for the caller's proof: the hash ends with the block of both lengths in bits. The call does nothing.
+    fn ends_in_lengths()
+        ensures { EndsInLengths Self.order Self.Count.by };
 
     // The secret that a state holds begins with a key of the multiplier.
     ghost serves: { (s : Setting) (k : List ℕ) → IsMessageSecret Self.Count.by k s
@@ -45,13 +41,6 @@ pub(crate) trait Rule: HashOrder {
         → ∥ IsSum Self.order (block_key Self.Count.by s) m low ∥₁ };
 }
 
-// Returns the number of bits in `bytes` bytes.
-fn bits(bytes: u64) -> u64
-    ensures { bytes < 2 ^ 61 → result ≡ 8 * bytes }
-{
-    bytes.wrapping_mul(8)
-}
-
 // The rule of AES-GCM (SP 800-38D, 7.1).
 impl Rule for GhashOrder {
     type Count = LastFour;
@@ -61,9 +50,7 @@ impl Rule for GhashOrder {
         gcm::nonce_and_counter(nonce, 2)
     }
 
-    fn lengths(aad_length: u64, bytes_length: u64) -> [u8; 16] {
-        be_pair(bits(aad_length), bits(bytes_length))
-    }
+    fn ends_in_lengths() {}
 
     ghost serves = { gcm_serves };
 
@@ -81,12 +68,7 @@ impl Rule for PolyvalOrder {
         Block::new(gcm_siv::counter_block(tag))
     }
 
-    fn lengths(aad_length: u64, bytes_length: u64) -> [u8; 16] {
-        joined(
-            &bits(aad_length).to_le_bytes(),
-            &bits(bytes_length).to_le_bytes(),
-        )
-    }
+    fn ends_in_lengths() {}
 
     ghost serves = { siv_serves };
 

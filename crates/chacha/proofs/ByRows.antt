@@ -4,9 +4,10 @@ use Rattle.std.proofs.Common.{List, [], ◌∷◌, ◌++◌, length, get_or, set
 use Rattle.std.proofs.lemmas.List.{take_all, get_or-take, get_or-drop, ext_get_or, get_or_append_left, get_or-append_right, length-append}
 use Rattle.std.proofs.Math.Seq.{take-add}
 use Rattle.std.proofs.lemmas.Bool.{cases_lt}
-use Rattle.chacha.specs.Block.{add_xor_rotate, quarter_round, column_round, diagonal_round, double_rounds}
+use Rattle.chacha.specs.Block.{add_xor_rotate, double_rounds}
 use Rattle.chacha.specs.Block.{added, serialized, initial_state, block}
 use Rattle.chacha.specs.Stream.{key_stream_byte}
+use Rattle.chacha.specs.Code.Halves.{half_quarter, half_columns, half_diagonals}
 use Rattle.chacha.specs.Code.Lanes.{lane}
 use Rattle.chacha.specs.Code.Rows.{four_from, read_by_rows, state_in, IsKeyStream}
 use Rattle.chacha.proofs.Words.{four_bytes, length-put, take-put, serialized-append}
@@ -35,74 +36,75 @@ sixteen_items v h =
     (four_bytes v 12 (omega arith))
     )
 
--- a round of the columns is a quarter round of each column
-columns_apart : (a0 a1 a2 a3 b0 b1 b2 b3 c0 c1 c2 c3 d0 d1 d2 d3 : ℕ)
-    → column_round (a0 ∷ a1 ∷ a2 ∷ a3 ∷ b0 ∷ b1 ∷ b2 ∷ b3 ∷ c0 ∷ c1 ∷ c2 ∷ c3 ∷ d0 ∷ d1 ∷ d2 ∷ d3 ∷ [])
-    ≡ get_or (quarter_round 0 1 2 3 (a0 ∷ b0 ∷ c0 ∷ d0 ∷ [])) 0 0
-    ∷ get_or (quarter_round 0 1 2 3 (a1 ∷ b1 ∷ c1 ∷ d1 ∷ [])) 0 0
-    ∷ get_or (quarter_round 0 1 2 3 (a2 ∷ b2 ∷ c2 ∷ d2 ∷ [])) 0 0
-    ∷ get_or (quarter_round 0 1 2 3 (a3 ∷ b3 ∷ c3 ∷ d3 ∷ [])) 0 0
-    ∷ get_or (quarter_round 0 1 2 3 (a0 ∷ b0 ∷ c0 ∷ d0 ∷ [])) 1 0
-    ∷ get_or (quarter_round 0 1 2 3 (a1 ∷ b1 ∷ c1 ∷ d1 ∷ [])) 1 0
-    ∷ get_or (quarter_round 0 1 2 3 (a2 ∷ b2 ∷ c2 ∷ d2 ∷ [])) 1 0
-    ∷ get_or (quarter_round 0 1 2 3 (a3 ∷ b3 ∷ c3 ∷ d3 ∷ [])) 1 0
-    ∷ get_or (quarter_round 0 1 2 3 (a0 ∷ b0 ∷ c0 ∷ d0 ∷ [])) 2 0
-    ∷ get_or (quarter_round 0 1 2 3 (a1 ∷ b1 ∷ c1 ∷ d1 ∷ [])) 2 0
-    ∷ get_or (quarter_round 0 1 2 3 (a2 ∷ b2 ∷ c2 ∷ d2 ∷ [])) 2 0
-    ∷ get_or (quarter_round 0 1 2 3 (a3 ∷ b3 ∷ c3 ∷ d3 ∷ [])) 2 0
-    ∷ get_or (quarter_round 0 1 2 3 (a0 ∷ b0 ∷ c0 ∷ d0 ∷ [])) 3 0
-    ∷ get_or (quarter_round 0 1 2 3 (a1 ∷ b1 ∷ c1 ∷ d1 ∷ [])) 3 0
-    ∷ get_or (quarter_round 0 1 2 3 (a2 ∷ b2 ∷ c2 ∷ d2 ∷ [])) 3 0
-    ∷ get_or (quarter_round 0 1 2 3 (a3 ∷ b3 ∷ c3 ∷ d3 ∷ [])) 3 0 ∷ []
-unfolding column_round quarter_round add_xor_rotate
-columns_apart a0 a1 a2 a3 b0 b1 b2 b3 c0 c1 c2 c3 d0 d1 d2 d3 = refl
+-- half of a round of the columns is half of a quarter round of each column
+columns_apart : (n m a0 a1 a2 a3 b0 b1 b2 b3 c0 c1 c2 c3 d0 d1 d2 d3 : ℕ)
+    → half_columns n m (a0 ∷ a1 ∷ a2 ∷ a3 ∷ b0 ∷ b1 ∷ b2 ∷ b3 ∷ c0 ∷ c1 ∷ c2 ∷ c3 ∷ d0 ∷ d1 ∷ d2 ∷ d3 ∷ [])
+    ≡ get_or (half_quarter n m (a0 ∷ b0 ∷ c0 ∷ d0 ∷ [])) 0 0
+    ∷ get_or (half_quarter n m (a1 ∷ b1 ∷ c1 ∷ d1 ∷ [])) 0 0
+    ∷ get_or (half_quarter n m (a2 ∷ b2 ∷ c2 ∷ d2 ∷ [])) 0 0
+    ∷ get_or (half_quarter n m (a3 ∷ b3 ∷ c3 ∷ d3 ∷ [])) 0 0
+    ∷ get_or (half_quarter n m (a0 ∷ b0 ∷ c0 ∷ d0 ∷ [])) 1 0
+    ∷ get_or (half_quarter n m (a1 ∷ b1 ∷ c1 ∷ d1 ∷ [])) 1 0
+    ∷ get_or (half_quarter n m (a2 ∷ b2 ∷ c2 ∷ d2 ∷ [])) 1 0
+    ∷ get_or (half_quarter n m (a3 ∷ b3 ∷ c3 ∷ d3 ∷ [])) 1 0
+    ∷ get_or (half_quarter n m (a0 ∷ b0 ∷ c0 ∷ d0 ∷ [])) 2 0
+    ∷ get_or (half_quarter n m (a1 ∷ b1 ∷ c1 ∷ d1 ∷ [])) 2 0
+    ∷ get_or (half_quarter n m (a2 ∷ b2 ∷ c2 ∷ d2 ∷ [])) 2 0
+    ∷ get_or (half_quarter n m (a3 ∷ b3 ∷ c3 ∷ d3 ∷ [])) 2 0
+    ∷ get_or (half_quarter n m (a0 ∷ b0 ∷ c0 ∷ d0 ∷ [])) 3 0
+    ∷ get_or (half_quarter n m (a1 ∷ b1 ∷ c1 ∷ d1 ∷ [])) 3 0
+    ∷ get_or (half_quarter n m (a2 ∷ b2 ∷ c2 ∷ d2 ∷ [])) 3 0
+    ∷ get_or (half_quarter n m (a3 ∷ b3 ∷ c3 ∷ d3 ∷ [])) 3 0 ∷ []
+unfolding half_columns half_quarter add_xor_rotate
+columns_apart n m a0 a1 a2 a3 b0 b1 b2 b3 c0 c1 c2 c3 d0 d1 d2 d3 = refl
 
--- a round of the diagonals is a quarter round of each diagonal
-diagonals_apart : (a0 a1 a2 a3 b0 b1 b2 b3 c0 c1 c2 c3 d0 d1 d2 d3 : ℕ)
-    → diagonal_round (a0 ∷ a1 ∷ a2 ∷ a3 ∷ b0 ∷ b1 ∷ b2 ∷ b3 ∷ c0 ∷ c1 ∷ c2 ∷ c3 ∷ d0 ∷ d1 ∷ d2 ∷ d3 ∷ [])
-    ≡ get_or (quarter_round 0 1 2 3 (a0 ∷ b1 ∷ c2 ∷ d3 ∷ [])) 0 0
-    ∷ get_or (quarter_round 0 1 2 3 (a1 ∷ b2 ∷ c3 ∷ d0 ∷ [])) 0 0
-    ∷ get_or (quarter_round 0 1 2 3 (a2 ∷ b3 ∷ c0 ∷ d1 ∷ [])) 0 0
-    ∷ get_or (quarter_round 0 1 2 3 (a3 ∷ b0 ∷ c1 ∷ d2 ∷ [])) 0 0
-    ∷ get_or (quarter_round 0 1 2 3 (a3 ∷ b0 ∷ c1 ∷ d2 ∷ [])) 1 0
-    ∷ get_or (quarter_round 0 1 2 3 (a0 ∷ b1 ∷ c2 ∷ d3 ∷ [])) 1 0
-    ∷ get_or (quarter_round 0 1 2 3 (a1 ∷ b2 ∷ c3 ∷ d0 ∷ [])) 1 0
-    ∷ get_or (quarter_round 0 1 2 3 (a2 ∷ b3 ∷ c0 ∷ d1 ∷ [])) 1 0
-    ∷ get_or (quarter_round 0 1 2 3 (a2 ∷ b3 ∷ c0 ∷ d1 ∷ [])) 2 0
-    ∷ get_or (quarter_round 0 1 2 3 (a3 ∷ b0 ∷ c1 ∷ d2 ∷ [])) 2 0
-    ∷ get_or (quarter_round 0 1 2 3 (a0 ∷ b1 ∷ c2 ∷ d3 ∷ [])) 2 0
-    ∷ get_or (quarter_round 0 1 2 3 (a1 ∷ b2 ∷ c3 ∷ d0 ∷ [])) 2 0
-    ∷ get_or (quarter_round 0 1 2 3 (a1 ∷ b2 ∷ c3 ∷ d0 ∷ [])) 3 0
-    ∷ get_or (quarter_round 0 1 2 3 (a2 ∷ b3 ∷ c0 ∷ d1 ∷ [])) 3 0
-    ∷ get_or (quarter_round 0 1 2 3 (a3 ∷ b0 ∷ c1 ∷ d2 ∷ [])) 3 0
-    ∷ get_or (quarter_round 0 1 2 3 (a0 ∷ b1 ∷ c2 ∷ d3 ∷ [])) 3 0 ∷ []
-unfolding diagonal_round quarter_round add_xor_rotate
-diagonals_apart a0 a1 a2 a3 b0 b1 b2 b3 c0 c1 c2 c3 d0 d1 d2 d3 = refl
+-- half of a round of the diagonals is half of a quarter round of each diagonal
+diagonals_apart : (n m a0 a1 a2 a3 b0 b1 b2 b3 c0 c1 c2 c3 d0 d1 d2 d3 : ℕ)
+    → half_diagonals n m (a0 ∷ a1 ∷ a2 ∷ a3 ∷ b0 ∷ b1 ∷ b2 ∷ b3 ∷ c0 ∷ c1 ∷ c2 ∷ c3 ∷ d0 ∷ d1 ∷ d2 ∷ d3 ∷ [])
+    ≡ get_or (half_quarter n m (a0 ∷ b1 ∷ c2 ∷ d3 ∷ [])) 0 0
+    ∷ get_or (half_quarter n m (a1 ∷ b2 ∷ c3 ∷ d0 ∷ [])) 0 0
+    ∷ get_or (half_quarter n m (a2 ∷ b3 ∷ c0 ∷ d1 ∷ [])) 0 0
+    ∷ get_or (half_quarter n m (a3 ∷ b0 ∷ c1 ∷ d2 ∷ [])) 0 0
+    ∷ get_or (half_quarter n m (a3 ∷ b0 ∷ c1 ∷ d2 ∷ [])) 1 0
+    ∷ get_or (half_quarter n m (a0 ∷ b1 ∷ c2 ∷ d3 ∷ [])) 1 0
+    ∷ get_or (half_quarter n m (a1 ∷ b2 ∷ c3 ∷ d0 ∷ [])) 1 0
+    ∷ get_or (half_quarter n m (a2 ∷ b3 ∷ c0 ∷ d1 ∷ [])) 1 0
+    ∷ get_or (half_quarter n m (a2 ∷ b3 ∷ c0 ∷ d1 ∷ [])) 2 0
+    ∷ get_or (half_quarter n m (a3 ∷ b0 ∷ c1 ∷ d2 ∷ [])) 2 0
+    ∷ get_or (half_quarter n m (a0 ∷ b1 ∷ c2 ∷ d3 ∷ [])) 2 0
+    ∷ get_or (half_quarter n m (a1 ∷ b2 ∷ c3 ∷ d0 ∷ [])) 2 0
+    ∷ get_or (half_quarter n m (a1 ∷ b2 ∷ c3 ∷ d0 ∷ [])) 3 0
+    ∷ get_or (half_quarter n m (a2 ∷ b3 ∷ c0 ∷ d1 ∷ [])) 3 0
+    ∷ get_or (half_quarter n m (a3 ∷ b0 ∷ c1 ∷ d2 ∷ [])) 3 0
+    ∷ get_or (half_quarter n m (a0 ∷ b1 ∷ c2 ∷ d3 ∷ [])) 3 0 ∷ []
+unfolding half_diagonals half_quarter add_xor_rotate
+diagonals_apart n m a0 a1 a2 a3 b0 b1 b2 b3 c0 c1 c2 c3 d0 d1 d2 d3 = refl
 
--- if each of four neighbouring lanes undergoes a quarter round, their state undergoes a round of the columns
-pub columns : (m : ℕ) (x y : List (List ℕ)) → length x ≡ 4
-    → lane m y ≡ quarter_round 0 1 2 3 (lane m x)
-    → lane (m + 1) y ≡ quarter_round 0 1 2 3 (lane (m + 1) x)
-    → lane (m + 2) y ≡ quarter_round 0 1 2 3 (lane (m + 2) x)
-    → lane (m + 3) y ≡ quarter_round 0 1 2 3 (lane (m + 3) x)
-    → read_by_rows m y ≡ column_round (read_by_rows m x)
+-- if each of four neighbouring lanes undergoes half of a quarter round, their state undergoes half of a round of the
+-- columns
+pub columns : (p q m : ℕ) (x y : List (List ℕ)) → length x ≡ 4
+    → lane m y ≡ half_quarter p q (lane m x)
+    → lane (m + 1) y ≡ half_quarter p q (lane (m + 1) x)
+    → lane (m + 2) y ≡ half_quarter p q (lane (m + 2) x)
+    → lane (m + 3) y ≡ half_quarter p q (lane (m + 3) x)
+    → read_by_rows m y ≡ half_columns p q (read_by_rows m x)
 unfolding read_by_rows
-columns m x y long h0 h1 h2 h3 =
+columns p q m x y long h0 h1 h2 h3 =
     let w : ℕ → ℕ → ℕ = λ r j. get_or (get_or x r []) j 0 in
     let column : (j : ℕ) → lane j x ≡ w 0 j ∷ w 1 j ∷ w 2 j ∷ w 3 j ∷ [] = λ j.
     four_items (lane j x) (length-lane j x ∙ long)
     ∙ (λ k. get_or-lane j x 0 k ∷ get_or-lane j x 1 k ∷ get_or-lane j x 2 k ∷ get_or-lane j x 3 k ∷ []) in
-    let at : (j : ℕ) → lane j y ≡ quarter_round 0 1 2 3 (lane j x) → (r : ℕ)
-    → get_or (get_or y r []) j 0 ≡ get_or (quarter_round 0 1 2 3 (w 0 j ∷ w 1 j ∷ w 2 j ∷ w 3 j ∷ [])) r 0 =
+    let at : (j : ℕ) → lane j y ≡ half_quarter p q (lane j x) → (r : ℕ)
+    → get_or (get_or y r []) j 0 ≡ get_or (half_quarter p q (w 0 j ∷ w 1 j ∷ w 2 j ∷ w 3 j ∷ [])) r 0 =
     λ j h r. sym (get_or-lane j y r)
-    ∙ ap (λ s. get_or s r 0) (h ∙ ap (quarter_round 0 1 2 3) (column j)) in
+    ∙ ap (λ s. get_or s r 0) (h ∙ ap (half_quarter p q) (column j)) in
     let at0 = at m h0 in
     let at1 = at (m + 1) h1 in
     let at2 = at (m + 2) h2 in
     let at3 = at (m + 3) h3 in
     (λ k. at0 0 k ∷ at1 0 k ∷ at2 0 k ∷ at3 0 k ∷ at0 1 k ∷ at1 1 k ∷ at2 1 k ∷ at3 1 k
     ∷ at0 2 k ∷ at1 2 k ∷ at2 2 k ∷ at3 2 k ∷ at0 3 k ∷ at1 3 k ∷ at2 3 k ∷ at3 3 k ∷ [])
-    ∙ sym (columns_apart (w 0 m) (w 0 (m + 1)) (w 0 (m + 2)) (w 0 (m + 3)) (w 1 m) (w 1 (m + 1)) (w 1 (m + 2)) (w 1 (m + 3))
+    ∙ sym (columns_apart p q (w 0 m) (w 0 (m + 1)) (w 0 (m + 2)) (w 0 (m + 3)) (w 1 m) (w 1 (m + 1)) (w 1 (m + 2)) (w 1 (m + 3))
     (w 2 m) (w 2 (m + 1)) (w 2 (m + 2)) (w 2 (m + 3)) (w 3 m) (w 3 (m + 1)) (w 3 (m + 2)) (w 3 (m + 3)))
 
 -- the four words of a row from place m on are moved by one, two or three lanes down
@@ -118,43 +120,43 @@ abbrev pub ByThree : ℕ → List ℕ → List ℕ → Type 0
 ByThree m row moved = four_from m moved
     ≡ get_or row (m + 3) 0 ∷ get_or row m 0 ∷ get_or row (m + 1) 0 ∷ get_or row (m + 2) 0 ∷ []
 
--- if the rows are moved, each of four neighbouring lanes undergoes a quarter round, and the rows are moved back, the state
--- undergoes a round of the diagonals
-pub diagonals : (m : ℕ) (x n : List (List ℕ)) (m0 m2 m3 y0 y2 y3 : List ℕ)
+-- if the rows are moved, each of four neighbouring lanes undergoes half of a quarter round, and the rows are moved back, the
+-- state undergoes half of a round of the diagonals
+pub diagonals : (p q m : ℕ) (x n : List (List ℕ)) (m0 m2 m3 y0 y2 y3 : List ℕ)
     → ByThree m (get_or x 0 []) m0 → ByOne m (get_or x 2 []) m2 → ByTwo m (get_or x 3 []) m3
-    → lane m n ≡ quarter_round 0 1 2 3 (lane m (m0 ∷ get_or x 1 [] ∷ m2 ∷ m3 ∷ []))
-    → lane (m + 1) n ≡ quarter_round 0 1 2 3 (lane (m + 1) (m0 ∷ get_or x 1 [] ∷ m2 ∷ m3 ∷ []))
-    → lane (m + 2) n ≡ quarter_round 0 1 2 3 (lane (m + 2) (m0 ∷ get_or x 1 [] ∷ m2 ∷ m3 ∷ []))
-    → lane (m + 3) n ≡ quarter_round 0 1 2 3 (lane (m + 3) (m0 ∷ get_or x 1 [] ∷ m2 ∷ m3 ∷ []))
+    → lane m n ≡ half_quarter p q (lane m (m0 ∷ get_or x 1 [] ∷ m2 ∷ m3 ∷ []))
+    → lane (m + 1) n ≡ half_quarter p q (lane (m + 1) (m0 ∷ get_or x 1 [] ∷ m2 ∷ m3 ∷ []))
+    → lane (m + 2) n ≡ half_quarter p q (lane (m + 2) (m0 ∷ get_or x 1 [] ∷ m2 ∷ m3 ∷ []))
+    → lane (m + 3) n ≡ half_quarter p q (lane (m + 3) (m0 ∷ get_or x 1 [] ∷ m2 ∷ m3 ∷ []))
     → ByOne m (get_or n 0 []) y0 → ByThree m (get_or n 2 []) y2 → ByTwo m (get_or n 3 []) y3
-    → read_by_rows m (y0 ∷ get_or n 1 [] ∷ y2 ∷ y3 ∷ []) ≡ diagonal_round (read_by_rows m x)
+    → read_by_rows m (y0 ∷ get_or n 1 [] ∷ y2 ∷ y3 ∷ []) ≡ half_diagonals p q (read_by_rows m x)
 unfolding read_by_rows lane
-diagonals m x n m0 m2 m3 y0 y2 y3 e0 e2 e3 h0 h1 h2 h3 f0 f2 f3 =
+diagonals p q m x n m0 m2 m3 y0 y2 y3 e0 e2 e3 h0 h1 h2 h3 f0 f2 f3 =
     let w : ℕ → ℕ → ℕ = λ r j. get_or (get_or x r []) j 0 in
     let at0 : (r : ℕ) → get_or (get_or n r []) m 0
-    ≡ get_or (quarter_round 0 1 2 3 (w 0 (m + 3) ∷ w 1 m ∷ w 2 (m + 1) ∷ w 3 (m + 2) ∷ [])) r 0 =
+    ≡ get_or (half_quarter p q (w 0 (m + 3) ∷ w 1 m ∷ w 2 (m + 1) ∷ w 3 (m + 2) ∷ [])) r 0 =
     λ r. sym (get_or-lane m n r) ∙ ap (λ s. get_or s r 0) (h0
-    ∙ ap (quarter_round 0 1 2 3)
+    ∙ ap (half_quarter p q)
     (λ k. get_or (e0 k) 0 0 ∷ w 1 m ∷ get_or (e2 k) 0 0 ∷ get_or (e3 k) 0 0 ∷ [])) in
     let at1 : (r : ℕ) → get_or (get_or n r []) (m + 1) 0
-    ≡ get_or (quarter_round 0 1 2 3 (w 0 m ∷ w 1 (m + 1) ∷ w 2 (m + 2) ∷ w 3 (m + 3) ∷ [])) r 0 =
+    ≡ get_or (half_quarter p q (w 0 m ∷ w 1 (m + 1) ∷ w 2 (m + 2) ∷ w 3 (m + 3) ∷ [])) r 0 =
     λ r. sym (get_or-lane (m + 1) n r) ∙ ap (λ s. get_or s r 0) (h1
-    ∙ ap (quarter_round 0 1 2 3)
+    ∙ ap (half_quarter p q)
     (λ k. get_or (e0 k) 1 0 ∷ w 1 (m + 1) ∷ get_or (e2 k) 1 0 ∷ get_or (e3 k) 1 0 ∷ [])) in
     let at2 : (r : ℕ) → get_or (get_or n r []) (m + 2) 0
-    ≡ get_or (quarter_round 0 1 2 3 (w 0 (m + 1) ∷ w 1 (m + 2) ∷ w 2 (m + 3) ∷ w 3 m ∷ [])) r 0 =
+    ≡ get_or (half_quarter p q (w 0 (m + 1) ∷ w 1 (m + 2) ∷ w 2 (m + 3) ∷ w 3 m ∷ [])) r 0 =
     λ r. sym (get_or-lane (m + 2) n r) ∙ ap (λ s. get_or s r 0) (h2
-    ∙ ap (quarter_round 0 1 2 3)
+    ∙ ap (half_quarter p q)
     (λ k. get_or (e0 k) 2 0 ∷ w 1 (m + 2) ∷ get_or (e2 k) 2 0 ∷ get_or (e3 k) 2 0 ∷ [])) in
     let at3 : (r : ℕ) → get_or (get_or n r []) (m + 3) 0
-    ≡ get_or (quarter_round 0 1 2 3 (w 0 (m + 2) ∷ w 1 (m + 3) ∷ w 2 m ∷ w 3 (m + 1) ∷ [])) r 0 =
+    ≡ get_or (half_quarter p q (w 0 (m + 2) ∷ w 1 (m + 3) ∷ w 2 m ∷ w 3 (m + 1) ∷ [])) r 0 =
     λ r. sym (get_or-lane (m + 3) n r) ∙ ap (λ s. get_or s r 0) (h3
-    ∙ ap (quarter_round 0 1 2 3)
+    ∙ ap (half_quarter p q)
     (λ k. get_or (e0 k) 3 0 ∷ w 1 (m + 3) ∷ get_or (e2 k) 3 0 ∷ get_or (e3 k) 3 0 ∷ [])) in
     (λ k. f0 k ++ (four_from m (get_or n 1 []) ++ (f2 k ++ f3 k)))
     ∙ (λ k. at1 0 k ∷ at2 0 k ∷ at3 0 k ∷ at0 0 k ∷ at0 1 k ∷ at1 1 k ∷ at2 1 k ∷ at3 1 k
     ∷ at3 2 k ∷ at0 2 k ∷ at1 2 k ∷ at2 2 k ∷ at2 3 k ∷ at3 3 k ∷ at0 3 k ∷ at1 3 k ∷ [])
-    ∙ sym (diagonals_apart (w 0 m) (w 0 (m + 1)) (w 0 (m + 2)) (w 0 (m + 3)) (w 1 m) (w 1 (m + 1)) (w 1 (m + 2)) (w 1 (m + 3))
+    ∙ sym (diagonals_apart p q (w 0 m) (w 0 (m + 1)) (w 0 (m + 2)) (w 0 (m + 3)) (w 1 m) (w 1 (m + 1)) (w 1 (m + 2)) (w 1 (m + 3))
     (w 2 m) (w 2 (m + 1)) (w 2 (m + 2)) (w 2 (m + 3)) (w 3 m) (w 3 (m + 1)) (w 3 (m + 2)) (w 3 (m + 3)))
 
 -- the words of an initial state with another one for its counter are the initial state of that counter

@@ -6,10 +6,10 @@ ghost use Rattle.std.specs.Prelude.{take, drop, slice_index, bit_xor};
 ghost use Rattle.std.specs.Int.{w32, rotate_left};
 ghost use Rattle.octets.specs.Bytes.{xor_bytes};
 ghost use Rattle.octets.specs.Masked.{masked};
-ghost use Rattle.chacha.specs.Block.{add_xor_rotate, quarter_round, double_rounds, added, serialized, initial_state, block};
+ghost use Rattle.chacha.specs.Block.{add_xor_rotate, double_rounds, added, serialized, initial_state, block};
 ghost use Rattle.chacha.specs.Code.Lanes.{lane, AreStarts, HasBlocks, HasStarts};
 ghost use Rattle.chacha.specs.Code.Rows.{four_from};
-ghost use Rattle.chacha.specs.Code.Halves.{half_columns, half_diagonals};
+ghost use Rattle.chacha.specs.Code.Halves.{half_quarter, half_columns, half_diagonals};
 ghost use Rattle.chacha.specs.Stream.{key_stream_byte};
 
 use crate::state::initial_state;
@@ -55,22 +55,14 @@ fn add_xor_rotate<const N: usize, const K: usize>(
     x[d] = turned;
 }
 
-// The quarter round in each lane.
+// Half of the quarter round in each lane: the first half, which rotates by 16 and 12, or the second, by 8 and 7.
 #[inline(always)]
-pub(crate) fn quarter_round<const N: usize, const K: usize>(
-    x: &mut [Simd<u32, N>; K],
-    a: usize,
-    b: usize,
-    c: usize,
-    d: usize,
-)
-    requires { (a < K) × (b < K) × (c < K) × (d < K) }
-    ensures { (j : ℕ) → j < N → lane j x.new ≡ quarter_round a b c d (lane j x.old) }
+pub(crate) fn half_quarter<const N: usize>(x: &mut [Simd<u32, N>; 4], n: u32, m: u32)
+    requires { (0 < n) × (n < 32) × (0 < m) × (m < 32) }
+    ensures { (j : ℕ) → j < N → lane j x.new ≡ half_quarter n m (lane j x.old) }
 {
-    add_xor_rotate(x, a, b, d, 16);
-    add_xor_rotate(x, c, d, b, 12);
-    add_xor_rotate(x, a, b, d, 8);
-    add_xor_rotate(x, c, d, b, 7);
+    add_xor_rotate(x, 0, 1, 3, n);
+    add_xor_rotate(x, 2, 3, 1, m);
 }
 
 // Half of the round of the columns in each lane: the first half, which rotates by 16 and 12, or the second, by 8 and 7. Each

@@ -30,7 +30,6 @@ pub use lanes::{four_blocks, set_four_starts};
 pub use plan::{BlocksAtOnce, SEVEN_BLOCKS, interleaving_pays};
 pub use rows::block;
 pub use start::{
-    EightBlocks, FiveBlocks, FourBlocks, KeyStreamStart, NineBlocks, SixBlocks, ThreeBlocks,
-    TwoBlocks,
+    EightBlocks, FiveBlocks, FourBlocks, KeyStreamStart, SixBlocks, ThreeBlocks, TwoBlocks,
 };
 pub use stream::ChaStream;

@@ -26,27 +26,27 @@ pub(crate) fn has_run_of_four(skip: usize, length: usize) -> bool
     !WIDE && skip == 0 && length >= 256
 }
 
-/// The length in bytes of one block. More key stream than this is made two blocks at once by rows: 411 cycles in place of twice
-/// 296, with AVX2 300.
-pub(crate) const ONE_AT_MOST: usize = 64;
+/// More key stream in bytes than this, one block, is made two blocks at once by rows: 390 cycles in place of twice 295. With AVX2 two
+/// blocks, 310 cycles, take hardly longer than one, 280, so two are always made.
+pub(crate) const ONE_AT_MOST: usize = if WIDE { 0 } else { 64 };
 
-/// The length in bytes of two blocks. More key stream than this is made three blocks at once by rows, in 557 cycles, with AVX2 four in
-/// two pairs, in 415.
+/// The length in bytes of two blocks. More key stream than this is made three blocks at once by rows, in 490 cycles, with AVX2 four in
+/// two pairs, in 410.
 pub(crate) const TWO_AT_MOST: usize = 128;
 
-/// The length in bytes of three blocks. Without AVX2, more key stream than this is made four blocks at once in lanes, in 690 cycles.
+/// The length in bytes of three blocks. Without AVX2, more key stream than this is made four blocks at once in lanes, in 570 cycles.
 pub(crate) const THREE_AT_MOST: usize = 192;
 
 /// The length in bytes of four blocks. More key stream than this is made five blocks at once, one by rows in the idle slots of four in
-/// lanes, in 742 cycles, with AVX2 six in three pairs, in 600.
+/// lanes, in 720 cycles, with AVX2 six in three pairs, in 525.
 pub(crate) const FOUR_AT_MOST: usize = 256;
 
-/// The length in bytes of six blocks. With AVX2, more key stream than this is made eight blocks at once in lanes, in 690 cycles: if the
+/// The length in bytes of six blocks. With AVX2, more key stream than this is made eight blocks at once in lanes, in 620 cycles: if the
 /// bytes begin a block, the first half is masked in place, and only the other half by way of a buffer.
 pub(crate) const SIX_AT_MOST: usize = 384;
 
 /// The length in bytes of the longest text that the blocks with the counters 1 to 7 mask. Up to this length an opening hashes the
-/// ciphertext and then decrypts it by blocks that are made already; in a longer one, both are interleaved.
+/// ciphertext and then decrypts it; in a longer one, both are interleaved.
 pub const SEVEN_BLOCKS: usize = 448;
 
 /// How many blocks of a key stream are computed at once, from counter 0 on.
@@ -64,23 +64,20 @@ pub enum BlocksAtOnce {
     Six,
     /// The blocks of [`EightBlocks`](crate::EightBlocks).
     Eight,
-    /// The blocks of [`NineBlocks`](crate::NineBlocks).
-    Nine,
 }
 
 impl BlocksAtOnce {
     /// Returns how many blocks are computed at once for a text of `length` bytes that is masked from counter 1 on. The block of
-    /// counter 0 is not for the text, and the others mask what runs of eight, or without AVX2 of four, do not fill. Nine blocks take
-    /// 755 cycles, the others as the constants above say. With AVX2, pairs in place of lanes made sealing up to 64 bytes 1.23 times as
-    /// fast, up to 192 bytes 1.2, up to 320 bytes 1.07, and from 513 to 960 bytes 1.05 to 1.3.
+    /// counter 0 is not for the text, and the others mask what runs of eight, or without AVX2 of four, do not fill. With AVX2, six are
+    /// enough for 449 to 512 bytes: the others are made while the bytes before them are hashed.
     pub fn for_text(length: usize) -> BlocksAtOnce {
         if WIDE {
             return match length.max(1) % 512 {
                 1..=64 => BlocksAtOnce::Two,
                 65..=192 => BlocksAtOnce::Four,
                 193..=320 => BlocksAtOnce::Six,
-                321..=448 => BlocksAtOnce::Eight,
-                _ => BlocksAtOnce::Nine,
+                _ if 448 < length && length <= 512 => BlocksAtOnce::Six,
+                _ => BlocksAtOnce::Eight,
             };
         }
         match length.max(1) % 256 {
@@ -94,8 +91,7 @@ impl BlocksAtOnce {
 
 /// Returns whether interleaving a hash with the mask of a text of `length` bytes takes less time than hashing after it. The key
 /// stream for the first `ready` bytes is made already. A run is interleaved with the hash of what is masked before it: if that is
-/// less than half a run, the first run has little to be interleaved with, and a second one has to follow. Sealing 1 KiB became
-/// 1.2 times as fast.
+/// less than half a run, a whole run has to follow. An opening hashes that run itself. Sealing 1 KiB became 1.2 times as fast.
 pub fn interleaving_pays(ready: usize, length: usize) -> bool {
-    length > ready && (ready >= RUN / 2 || length - ready > RUN)
+    length > ready && (ready >= RUN / 2 || length - ready >= RUN)
 }

@@ -1,4 +1,4 @@
-//! One block of ChaCha20 by rows beside four or eight in lanes (RFC 8439, 2.3): the instructions of a row fit into idle slots
+//! One block of ChaCha20 by rows beside four in lanes (RFC 8439, 2.3): the instructions of a row fit into idle slots
 //! of the lanes.
 
 ghost use Rattle.std.specs.Prelude.{◌≡◌, ℕ, ◌+◌, ◌^◌, ◌<◌, List, length, slice_index};
@@ -9,15 +9,13 @@ ghost use Rattle.chacha.specs.Code.Rows.{state_in};
 ghost use Rattle.chacha.specs.Stream.{key_stream_byte};
 
 use crate::lanes::{
-    RESERVE, add, eight_counters, four_counters, half_columns, half_diagonals, set_starts,
-    xor_eight_serialized, xor_serialized,
+    RESERVE, add, four_counters, half_columns, half_diagonals, set_starts, xor_serialized,
 };
 use crate::rows::Rows;
-use octets::{Idle, Key32, Nonce, Work, xor_into};
-use std::simd::{Simd, u32x4, u32x8};
+use octets::{Key32, Nonce, Work, xor_into};
+use std::simd::{Simd, u32x4};
 
-// Ten double rounds of the lanes, and of the rows beside the first halves of their rounds, with a step of other work
-// after each half.
+// Ten double rounds of the lanes, and of the rows beside them, with a step of other work after each half.
 #[inline(always)]
 fn ten_rounds<const N: usize, W: Work>(
     x: &mut [Simd<u32, N>; 16],
@@ -31,14 +29,16 @@ fn ten_rounds<const N: usize, W: Work>(
     let mut own = *work;
     'rounds: for _ in 0..10u32 {
         half_columns(x, 16, 12);
-        row.column_round();
+        row.half_columns(16, 12);
         own.step(0);
         half_columns(x, 8, 7);
+        row.half_columns(8, 7);
         own.step(RESERVE);
         half_diagonals(x, 16, 12);
-        row.diagonal_round();
+        row.half_diagonals(16, 12);
         own.step(0);
         half_diagonals(x, 8, 7);
+        row.half_diagonals(8, 7);
         own.step(RESERVE);
     }
     *work = own;
@@ -98,24 +98,4 @@ pub(crate) fn xor_five_blocks<W: Work>(
     let (front, back) = bytes.split_at_mut(64);
     xor_into(front, &first);
     xor_serialized(&x, back);
-}
-
-// XORs the first 576 bytes of the key stream from a counter on into `bytes`.
-pub(crate) fn xor_nine_blocks(key: &Key32, counter: u32, nonce: &Nonce, bytes: &mut [u8])
-    requires counters { counter + 8 < 2 ^ 32 }
-    requires size { length bytes.old ≡ 576 }
-    ensures { bytes.new ≡ masked (key_stream_byte key.now nonce.now counter) 0 bytes.old }
-{
-    let mut x = [u32x8::splat(0); 16];
-    let first = set_blocks(
-        &mut x,
-        key,
-        counter,
-        eight_counters(counter + 1),
-        nonce,
-        &mut Idle::new(),
-    );
-    let (front, back) = bytes.split_at_mut(64);
-    xor_into(front, &first);
-    xor_eight_serialized(&x, back);
 }

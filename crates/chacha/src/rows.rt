@@ -1,15 +1,16 @@
 //! Blocks of ChaCha20 by the rows of their states (RFC 8439, 2.3): a vector for a row, a lane for a column. A set of rows has one
 //! block in vectors of four words, or two side by side in vectors of eight. Sets are computed together, since each round of a set
-//! waits for the round before: of pairs, one set takes 300 cycles with AVX2, two take 415, three 600. A reader of the crate begins
+//! waits for the round before: of pairs, one set takes 310 cycles with AVX2, two take 410, three 525. A reader of the crate begins
 //! here.
 
 ghost use Rattle.std.specs.Prelude.{◌≡◌, ℕ, ◌+◌, ◌*◌, ◌%◌, ◌^◌, ◌<◌, ◌≤◌, ◌∷◌, ◌++◌, [], List, length, take, drop};
 ghost use Rattle.std.specs.Prelude.{slice_index};
 ghost use Rattle.octets.specs.Bytes.{AreBytes};
-ghost use Rattle.chacha.specs.Block.{column_round, diagonal_round, added, serialized, initial_state, block};
-ghost use Rattle.chacha.specs.Code.Rows.{four_from, read_by_rows, state_in, IsKeyStream, one_some, two_some};
+ghost use Rattle.chacha.specs.Block.{added, serialized, initial_state, block};
+ghost use Rattle.chacha.specs.Code.Halves.{half_columns, half_diagonals};
+ghost use Rattle.chacha.specs.Code.Rows.{four_from, read_by_rows, state_in, state_long, IsKeyStream, one_some, two_some};
 
-use crate::lanes::{bytes_of, bytes_of_eight, high_halves, low_halves, quarter_round, sum};
+use crate::lanes::{bytes_of, bytes_of_eight, half_quarter, high_halves, low_halves, sum};
 use crate::state::initial_state;
 use octets::{Idle, Key32, Nonce, WIDE, Work};
 use std::simd::{u32x4, u32x8};
@@ -29,14 +30,17 @@ pub(crate) trait Rows: Copy {
         requires { counter + COUNT ≤ 2 ^ 32 }
         ensures { (n : ℕ) → n < COUNT → state result n ≡ initial_state key.now (counter + n) nonce.now };
 
-    // The quarter round on each column, which is a lane (RFC 8439, 2.3).
-    fn column_round(&mut self)
-        ensures { (n : ℕ) → n < COUNT → state self.new n ≡ column_round (state self.old n) };
+    // Half of the quarter round on each column, which is a lane (RFC 8439, 2.3): the first half, which rotates by 16 and 12, or the
+    // second, by 8 and 7.
+    fn half_columns(&mut self, n: u32, m: u32)
+        requires { (0 < n) × (n < 32) × (0 < m) × (m < 32) }
+        ensures { (k : ℕ) → k < COUNT → state self.new k ≡ half_columns n m (state self.old k) };
 
-    // The quarter round on each diagonal, which is moved into a lane and back (RFC 8439, 2.3). The words of the second row stay,
-    // since a quarter round makes them last.
-    fn diagonal_round(&mut self)
-        ensures { (n : ℕ) → n < COUNT → state self.new n ≡ diagonal_round (state self.old n) };
+    // Half of the quarter round on each diagonal, which is moved into a lane and back (RFC 8439, 2.3). The words of the second row
+    // stay, since a quarter round makes them last. LLVM leaves out what is moved back and moved again.
+    fn half_diagonals(&mut self, n: u32, m: u32)
+        requires { (0 < n) × (n < 32) × (0 < m) × (m < 32) }
+        ensures { (k : ℕ) → k < COUNT → state self.new k ≡ half_diagonals n m (state self.old k) };
 
     // Adds the start to each state and writes the sums, serialized one state after the other.
     fn put_sums(&self, start: &Self, out: &mut [u8])
@@ -45,6 +49,8 @@ pub(crate) trait Rows: Copy {
             ≡ serialized (added (state self.now n) (state start.now n)) };
 
     ghost some: { 0 < COUNT };
+
+    ghost long: { (x : Self) (n : ℕ) → length (state x n) ≡ 16 };
 }
 
 // The row with its words moved one lane down.
@@ -116,19 +122,19 @@ impl Rows for [u32x4; 4] {
     }
 
     #[inline(always)]
-    fn column_round(&mut self) {
-        quarter_round(self, 0, 1, 2, 3);
+    fn half_columns(&mut self, n: u32, m: u32) {
+        half_quarter(self, n, m);
     }
 
     #[inline(always)]
-    fn diagonal_round(&mut self) {
+    fn half_diagonals(&mut self, n: u32, m: u32) {
         let mut moved = [
             moved_by_three(self[0]),
             self[1],
             moved_by_one(self[2]),
             moved_by_two(self[3]),
         ];
-        quarter_round(&mut moved, 0, 1, 2, 3);
+        half_quarter(&mut moved, n, m);
         let next = [
             moved_by_one(moved[0]),
             moved[1],
@@ -147,6 +153,8 @@ impl Rows for [u32x4; 4] {
     }
 
     ghost some = { one_some };
+
+    ghost long = { state_long };
 }
 
 // Each half of the row with its words moved one lane down.
@@ -207,19 +215,19 @@ impl Rows for [u32x8; 4] {
     }
 
     #[inline(always)]
-    fn column_round(&mut self) {
-        quarter_round(self, 0, 1, 2, 3);
+    fn half_columns(&mut self, n: u32, m: u32) {
+        half_quarter(self, n, m);
     }
 
     #[inline(always)]
-    fn diagonal_round(&mut self) {
+    fn half_diagonals(&mut self, n: u32, m: u32) {
         let mut moved = [
             halves_moved_by_three(self[0]),
             self[1],
             halves_moved_by_one(self[2]),
             halves_moved_by_two(self[3]),
         ];
-        quarter_round(&mut moved, 0, 1, 2, 3);
+        half_quarter(&mut moved, n, m);
         let next = [
             halves_moved_by_one(moved[0]),
             moved[1],
@@ -241,9 +249,12 @@ impl Rows for [u32x8; 4] {
     }
 
     ghost some = { two_some };
+
+    ghost long = { state_long };
 }
 
-// Writes the blocks of one set from a counter on, and does a step of other work after each round.
+// Writes the blocks of one set from a counter on, and does a step of other work in each round. A step is a
+// branch, and stands between the halves of a round for the reason that `lanes` gives.
 #[inline(always)]
 fn put_set<R: Rows, W: Work>(key: &Key32, counter: u32, nonce: &Nonce, out: &mut [u8], work: &mut W)
     requires counters { counter + R.COUNT ≤ 2 ^ 32 }
@@ -255,16 +266,18 @@ fn put_set<R: Rows, W: Work>(key: &Key32, counter: u32, nonce: &Nonce, out: &mut
     let mut x = start;
     let mut own = *work;
     'rounds: for _round in 0..10u32 {
-        x.column_round();
+        x.half_columns(16, 12);
         own.step(0);
-        x.diagonal_round();
+        x.half_columns(8, 7);
+        x.half_diagonals(16, 12);
         own.step(0);
+        x.half_diagonals(8, 7);
     }
     *work = own;
     x.put_sums(&start, out);
 }
 
-// Writes the blocks of two sets from a counter on, which are computed together, and does a step of other work after each
+// Writes the blocks of two sets from a counter on, which are computed together, and does a step of other work in each
 // round. It is a separate function, since its frame would slow down its callers.
 #[inline(never)]
 pub(crate) fn put_two_sets<R: Rows, W: Work>(
@@ -285,12 +298,16 @@ pub(crate) fn put_two_sets<R: Rows, W: Work>(
     let mut y = start_y;
     let mut own = *work;
     'rounds: for _round in 0..10u32 {
-        x.column_round();
-        y.column_round();
+        x.half_columns(16, 12);
+        y.half_columns(16, 12);
         own.step(0);
-        x.diagonal_round();
-        y.diagonal_round();
+        x.half_columns(8, 7);
+        y.half_columns(8, 7);
+        x.half_diagonals(16, 12);
+        y.half_diagonals(16, 12);
         own.step(0);
+        x.half_diagonals(8, 7);
+        y.half_diagonals(8, 7);
     }
     *work = own;
     let (front, back) = out.split_at_mut(out.len() / 2);
@@ -298,7 +315,7 @@ pub(crate) fn put_two_sets<R: Rows, W: Work>(
     y.put_sums(&start_y, back);
 }
 
-// Writes the blocks of three sets from a counter on, which are computed together, and does a step of other work after each
+// Writes the blocks of three sets from a counter on, which are computed together, and does a step of other work in each
 // round. It is a separate function, since its frame would slow down its callers.
 #[inline(never)]
 pub(crate) fn put_three_sets<R: Rows, W: Work>(
@@ -321,14 +338,20 @@ pub(crate) fn put_three_sets<R: Rows, W: Work>(
     let mut z = start_z;
     let mut own = *work;
     'rounds: for _round in 0..10u32 {
-        x.column_round();
-        y.column_round();
-        z.column_round();
+        x.half_columns(16, 12);
+        y.half_columns(16, 12);
+        z.half_columns(16, 12);
         own.step(0);
-        x.diagonal_round();
-        y.diagonal_round();
-        z.diagonal_round();
+        x.half_columns(8, 7);
+        y.half_columns(8, 7);
+        z.half_columns(8, 7);
+        x.half_diagonals(16, 12);
+        y.half_diagonals(16, 12);
+        z.half_diagonals(16, 12);
         own.step(0);
+        x.half_diagonals(8, 7);
+        y.half_diagonals(8, 7);
+        z.half_diagonals(8, 7);
     }
     *work = own;
     let (front, rest) = out.split_at_mut(out.len() / 3);

@@ -20,12 +20,12 @@ pub trait KeyStreamStart: Drop + Sized {
         ensures { (i : ℕ) → i < length (bytes result)
             → slice_index (bytes result) i ≡ key_stream_byte key.now nonce.now 0 i };
 
-    /// Returns the bytes of the blocks: 64 for each of two to nine.
+    /// Returns the bytes of the blocks: 64 for each of two to eight.
     fn blocks(&self) -> &[u8]
         ensures value { result.now ≡ bytes self.now }
         ensures whole { length result.now % 64 ≡ 0 }
         ensures some { 64 ≤ length result.now }
-        ensures at_most_nine { length result.now ≤ 576 };
+        ensures at_most_eight { length result.now ≤ 512 };
 }
 
 /// The two blocks with the counters 0 and 1.
@@ -144,26 +144,6 @@ impl KeyStreamStart for EightBlocks {
     fn make(key: &Key32, nonce: &Nonce) -> EightBlocks {
         let mut start = EightBlocks { bytes: [0; 512] };
         lanes::xor_eights(key, 0, nonce, &mut start.bytes, &mut Idle::new());
-        start
-    }
-
-    fn blocks(&self) -> &[u8] {
-        &self.bytes
-    }
-}
-
-/// The nine blocks with the counters 0 to 8.
-#[derive(Drop)]
-pub struct NineBlocks {
-    bytes: [u8; 576],
-}
-
-impl KeyStreamStart for NineBlocks {
-    ghost bytes = { λ s. s.bytes };
-
-    fn make(key: &Key32, nonce: &Nonce) -> NineBlocks {
-        let mut start = NineBlocks { bytes: [0; 576] };
-        row_beside::xor_nine_blocks(key, 0, nonce, &mut start.bytes);
         start
     }
 

@@ -13,7 +13,7 @@ use Rattle.octets.proofs.Horner.{horner, sum_is, residue_same, product_first, pr
 use Rattle.octets.proofs.Readings.{g_injective}
 use Rattle.octets.proofs.Blocks.{block_at-append}
 use Rattle.gf128.specs.Ghash.{ghash_modulus, ghash_sum, ghash, GhashIsTheOnly}
-use Rattle.gf128.specs.Orders.{Order, Straight, Reversed, Serves, reading, block_sum}
+use Rattle.gf128.specs.Orders.{Order, Straight, Reversed, Serves, reading, two_numbers, block_sum}
 use Rattle.gf128.specs.Polyval.{IsMulX}
 use Rattle.gf128.specs.Code.Words.{of_word, IsWordProduct}
 use Rattle.gf128.proofs.FourProducts.{horner_more}
@@ -114,3 +114,8 @@ ghash_is_the_only h m =
       record { is_block = block; sum_is = same },
       λ y is. g_injective 16 y (bytes_of_g 16 s) is.is_block block (λ k. is.sum_is k ∙ sym (same k)),
     )
+
+-- a block of two numbers has sixteen bytes
+pub length-two_numbers : (o : Order) (a b : ℕ) → length (two_numbers o a b) ≡ 16
+length-two_numbers Straight a b = refl
+length-two_numbers Reversed a b = refl

@@ -1,8 +1,8 @@
 -- The sum after blocks, from one sum to the next.
-use Rattle.std.proofs.Common.{◌≡◌, ℕ, zero, suc, ◌+◌, ◌*◌, ◌/◌, ◌%◌, ◌<◌, Bool, List, [], ◌++◌, length}
+use Rattle.std.proofs.Common.{◌≡◌, ℕ, zero, suc, ◌+◌, ◌*◌, ◌/◌, ◌%◌, ◌<◌, Bool, List, [], ◌∷◌, ◌++◌, length}
 use Rattle.std.proofs.Common.{get_or, bit_xor, refl, sym, ap, ap₂, ◌∙◌, arith}
 use mathlib.Core.Path.{fun_ext}
-use Rattle.std.proofs.lemmas.List.{length-append}
+use Rattle.std.proofs.lemmas.List.{length-append, take_all}
 use Rattle.std.specs.Simd.{first_chunks}
 use Rattle.octets.specs.Bytes.{block_at}
 use Rattle.octets.specs.Bits.{g}
@@ -106,3 +106,15 @@ absorbed o k m text blocks s z whole blank eb lb held is i =
     let next : q + suc j ≡ suc (q + j) = omega arith in
     rw (next, own j l) (block_sum_step o k (m ++ text) (q + j))) in
     rw end (is i ∙ ap (λ x. coefficient (sum_after o k (of_word s) blocks x) i) lb ∙ ap (λ f. f i) all)
+
+-- the sum after one block more, which is given by its word
+pub one_more : (o : Order) (k m block : List ℕ) (s x z : ℕ) → length m % 16 ≡ 0 → length block ≡ 16
+    → of_word x ≡ reading o block → Agree (of_word s) (block_sum o k m (length m / 16)) → IsWordProduct (bit_xor s x) k z
+    → Agree (of_word z) (block_sum o k (m ++ block) (length (m ++ block) / 16))
+unfolding sum_after
+one_more o k m block s x z whole long ex held is =
+    let one : length block / 16 ≡ 1 = omega (arith, long) in
+    let only : block ∷ [] ≡ first_chunks 16 (length block / 16) block =
+    rw one (ap (λ (b : List ℕ). b ∷ []) (sym (take_all 16 block (omega (arith, long))))) in
+    absorbed o k m block (block ∷ []) s z whole (omega (arith, long)) only (sym one) held
+    (one_after o k (of_word s) (block ∷ []) 0 s x z (λ i. refl) ex is)

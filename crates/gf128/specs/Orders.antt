@@ -1,5 +1,6 @@
 -- GHASH and POLYVAL as one sum in GHASH's field. They differ in the order in which they read the bytes of a block.
-use Rattle.std.specs.Prelude.{◌≡◌, ℕ, zero, suc, ◌-◌, Bool, List, [], reverse, length, get_or}
+use Rattle.std.specs.Prelude.{◌≡◌, ℕ, zero, suc, ◌-◌, Bool, List, [], ◌++◌, reverse, length, get_or}
+use Rattle.std.specs.Int.{w64, to_be_bytes, to_le_bytes}
 use Rattle.octets.specs.Bytes.{block_at, IsBlock}
 use Rattle.octets.specs.Bits.{g}
 use Rattle.octets.specs.Polynomial.{Agree, sum, product, power, sum_of_first, residue}
@@ -16,6 +17,12 @@ pub data Order : Type 0 where
 abbrev pub reading : Order → List ℕ → List Bool
 reading Straight b = g b
 reading Reversed b = g (reverse b)
+
+-- a block of two numbers of 8 bytes each: GHASH's have the most significant byte first, POLYVAL's the least significant one
+-- (SP 800-38D, 7.1; RFC 8452, 4)
+abbrev pub two_numbers : Order → ℕ → ℕ → List ℕ
+two_numbers Straight a b = to_be_bytes w64 a ++ to_be_bytes w64 b
+two_numbers Reversed a b = to_le_bytes w64 a ++ to_le_bytes w64 b
 
 -- products with k compute the hash under h: k is h for GHASH, and mulX of the reversed h for POLYVAL
 abbrev pub Serves : Order → List ℕ → List ℕ → Type 0

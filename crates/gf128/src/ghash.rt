@@ -5,7 +5,7 @@ ghost use Rattle.gf128.specs.Orders.{Straight};
 
 use crate::hash::BlockHash;
 use crate::hash_order::HashOrder;
-use crate::polynomial_word::{block_of, word_bytes, word_of};
+use crate::polynomial_word::{block_of, word_bytes, word_of, word_of_two};
 use octets::Block;
 
 /// The order of GHASH: the first byte of a block is the highest byte of its word.
@@ -22,6 +22,11 @@ impl HashOrder for GhashOrder {
     #[inline(always)]
     fn word_bytes(block: &[u8; 16]) -> [u8; 16] {
         word_bytes(block)
+    }
+
+    #[inline(always)]
+    fn word_of_two(first: u64, second: u64) -> u128 {
+        word_of_two(first, second)
     }
 
     #[inline(always)]

@@ -3,7 +3,8 @@
 
 ghost use Rattle.std.specs.Prelude.{◌≡◌, ℕ, ◌*◌, ◌/◌, ◌%◌, ◌<◌, ◌++◌, List, [], length, drop};
 ghost use Rattle.octets.specs.Bytes.{IsBlock};
-ghost use Rattle.gf128.specs.Orders.{Serves, hash_by};
+ghost use Rattle.gf128.specs.Code.Words.{of_word};
+ghost use Rattle.gf128.specs.Orders.{reading, two_numbers, Serves, hash_by};
 
 use crate::hash_order::HashOrder;
 use crate::{Keyed128, Multiply};
@@ -16,6 +17,19 @@ pub(crate) struct BlockSum<M, O> {
     pub(crate) multiplier: M,
     pub(crate) sum: u128,
     pub(crate) order: PhantomData<O>,
+}
+
+impl<M: Multiply, O: HashOrder> BlockSum<M, O> {
+    ghost use Rattle.gf128.specs.Code.States.{SumHolds};
+
+    // Absorbs the block that has this word.
+    #[inline(always)]
+    fn absorb_word(&mut self, word: u128)
+        ensures { (h m block : List ℕ) → length m % 16 ≡ 0 → length block ≡ 16 → of_word word ≡ reading O.order block
+            → SumHolds O.order M.key_bytes self.old h m → SumHolds O.order M.key_bytes self.new h (m ++ block) }
+    {
+        self.sum = self.multiplier.times_word(self.sum ^ word);
+    }
 }
 
 impl<M: Multiply, O: HashOrder> Absorb for BlockSum<M, O> {
@@ -117,12 +131,14 @@ impl<M: Multiply, O: HashOrder> BlockHash<M, O> {
         self.pieces.pad16();
     }
 
-    /// Adds the fewest zero bytes that make the text's length a multiple of 16, and then a block.
-    pub fn pad16_and_add(&mut self, block: &[u8; 16])
+    /// Adds the fewest zero bytes that make the text's length a multiple of 16, and then a block of two numbers of 8 bytes each, as
+    /// [`HashOrder::word_of_two`] has it.
+    pub fn pad16_and_add_two(&mut self, first: u64, second: u64)
         ensures { (h m : List ℕ) → HashHolds O.order M.key_bytes self.old h m
-            → HashHolds O.order M.key_bytes self.new h (pad16 m ++ block.now) }
+            → HashHolds O.order M.key_bytes self.new h (pad16 m ++ two_numbers O.order first second) }
     {
-        self.pieces.pad16_and_add(block);
+        self.pieces.pad16();
+        self.pieces.core.absorb_word(O::word_of_two(first, second));
     }
 
     /// Returns the hash of the text so far, if the text is whole blocks of 16 bytes.

@@ -5,7 +5,7 @@ ghost use Rattle.std.specs.Prelude.{◌≡◌, ℕ, ◌*◌, ◌/◌, ◌^◌, �
 ghost use Rattle.octets.specs.Bytes.{IsBlock, le};
 ghost use Rattle.octets.specs.Polynomial.{Agree};
 ghost use Rattle.gf128.specs.Code.Words.{of_bits, of_word};
-ghost use Rattle.gf128.specs.Orders.{Order, reading, Serves, hash_by, block_sum};
+ghost use Rattle.gf128.specs.Orders.{Order, reading, two_numbers, Serves, hash_by, block_sum};
 
 use octets::Block;
 
@@ -20,6 +20,11 @@ pub trait HashOrder {
     /// Returns the bytes of the word of a block, the least significant one first.
     fn word_bytes(block: &[u8; 16]) -> [u8; 16]
         ensures { of_word (le result) ≡ reading order block.now };
+
+    /// Returns the word of a block of two numbers of 8 bytes each. Under GHASH each has its most significant byte first (SP 800-38D,
+    /// 7.1), under POLYVAL its least significant one (RFC 8452, 4).
+    fn word_of_two(first: u64, second: u64) -> u128
+        ensures { of_word result ≡ reading order (two_numbers order first second) };
 
     /// Returns the hash of blocks from their sum, which is a word.
     fn hash_of(sum: u128) -> Block

@@ -1,6 +1,7 @@
 //! Words of 128 bits as polynomials of GHASH's field (SP 800-38D, 6.3): the bit of weight 2^127 is the coefficient of x^0.
 
-ghost use Rattle.std.specs.Prelude.{◌≡◌, reverse};
+ghost use Rattle.std.specs.Prelude.{◌≡◌, ◌++◌, reverse};
+ghost use Rattle.std.specs.Int.{w64, to_be_bytes};
 ghost use Rattle.octets.specs.Bytes.{IsBlock, le};
 ghost use Rattle.octets.specs.Bits.{g, v};
 ghost use Rattle.gf128.specs.Code.Words.{of_word, times_x};
@@ -45,6 +46,14 @@ pub(crate) fn reversed_word_of(block: &[u8; 16]) -> u128
     ensures { of_word result ≡ g (reverse block.now) }
 {
     u128::from_le_bytes(*block)
+}
+
+// The word of a block of two numbers, each with its most significant byte first.
+#[inline(always)]
+pub(crate) fn word_of_two(first: u64, second: u64) -> u128
+    ensures { of_word result ≡ g (to_be_bytes w64 first ++ to_be_bytes w64 second) }
+{
+    u128::from(first) * 0x1_0000_0000_0000_0000 + u128::from(second)
 }
 
 // The block of a word.

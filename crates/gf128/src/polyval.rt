@@ -8,7 +8,7 @@ ghost use Rattle.gf128.specs.Polyval.{DotIsTheOnly, PolyvalIsTheOnly, PolyvalByG
 use crate::hash::BlockHash;
 use crate::hash_order::HashOrder;
 use crate::polynomial_word::{
-    block_of, reversed_block_of, reversed_word_bytes, reversed_word_of, times_x,
+    block_of, reversed_block_of, reversed_word_bytes, reversed_word_of, times_x, word_of_two,
 };
 use octets::Block;
 
@@ -37,6 +37,12 @@ impl HashOrder for PolyvalOrder {
     #[inline(always)]
     fn word_bytes(block: &[u8; 16]) -> [u8; 16] {
         reversed_word_bytes(block)
+    }
+
+    // Both numbers and their bytes are in reverse order.
+    #[inline(always)]
+    fn word_of_two(first: u64, second: u64) -> u128 {
+        word_of_two(second, first)
     }
 
     #[inline(always)]

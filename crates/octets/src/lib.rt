@@ -45,7 +45,7 @@ pub use script::{ScriptIntake, ScriptOutlet, Step};
 pub use std_io::{FromRead, ToWrite};
 pub use transfer::{fill, give_all};
 pub use vector_width::WIDE;
-pub use words::{be_bytes, be_pair, joined, le_bytes, padded};
+pub use words::{be_bytes, joined, le_bytes, padded};
 pub use work::{BlockWork, Idle, Interleaved, Stream, Work};
 
 /// Every polynomial has exactly one residue modulo a polynomial of degree at least 1.

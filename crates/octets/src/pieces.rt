@@ -157,18 +157,4 @@ impl<A: Absorb> Pieces<A> {
             self.used = 0;
         }
     }
-
-    /// Adds the fewest zero bytes that make the length of the text a multiple of 16, and then a block.
-    pub fn pad16_and_add(&mut self, block: &[u8; 16])
-        ensures { (k m : List ℕ) → HoldsPieces A.absorbed self.old k m
-            → HoldsPieces A.absorbed self.new k (pad16 m ++ block.now) }
-    {
-        if self.used == 0 {
-            self.core.absorb(block);
-        } else {
-            self.core.absorb([self.buffer, *block].as_flattened());
-            self.buffer = [0; 16];
-            self.used = 0;
-        }
-    }
 }

@@ -1,9 +1,9 @@
-//! Numbers and their bytes, in both orders, for the length blocks of RFC 8439, SP 800-38D and RFC 8452; two arrays joined. The
-//! bytes of a number are made as one vector: of `to_le_bytes` LLVM makes a shift for each byte.
+//! Numbers and their bytes, in both orders; two arrays joined. The bytes of a number are made as one vector: of `to_le_bytes` LLVM
+//! makes a shift for each byte.
 
 ghost use Rattle.std.specs.Prelude.{◌≡◌, ◌++◌, ◌+◌, ◌-◌, ◌<◌, ◌^◌, length, replicate};
 ghost use Rattle.octets.specs.Bytes.{le};
-ghost use Rattle.std.specs.Int.{w64, w128, to_le_bytes, to_be_bytes};
+ghost use Rattle.std.specs.Int.{w128, to_le_bytes, to_be_bytes};
 
 use std::simd::prelude::*;
 use std::simd::{u8x16, u64x2};
@@ -32,22 +32,6 @@ pub fn be_bytes(word: u128) -> [u8; 16]
     ensures { result ≡ to_be_bytes w128 word }
 {
     lanes_of(word).reverse().to_array()
-}
-
-// The bytes of two numbers, concatenated, each with the least significant one first.
-#[inline(always)]
-fn lanes_of_two(first: u64, second: u64) -> u8x16
-    ensures { result ≡ to_le_bytes w64 first ++ to_le_bytes w64 second }
-{
-    u64x2::from_array([first, second]).to_le_bytes()
-}
-
-/// The 8 bytes of a number and then the 8 of another, each with the most significant one first.
-#[inline(always)]
-pub fn be_pair(first: u64, second: u64) -> [u8; 16]
-    ensures { result ≡ to_be_bytes w64 first ++ to_be_bytes w64 second }
-{
-    lanes_of_two(second, first).reverse().to_array()
 }
 
 /// Returns two arrays of one length, joined.

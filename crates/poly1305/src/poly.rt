@@ -1,6 +1,8 @@
 //! The one-time authenticator Poly1305 over a text that comes in pieces (RFC 8439, 2.5).
 
 ghost use Rattle.std.specs.Prelude.{◌≡◌, ℕ, ◌<◌, ◌*◌, ◌/◌, ◌%◌, ◌++◌, List, [], length, drop};
+ghost use Rattle.std.specs.Int.{w64, to_le_bytes};
+ghost use Rattle.octets.specs.Bytes.{le};
 ghost use Rattle.poly1305.specs.Poly1305.{prime, block_number};
 ghost use Rattle.poly1305.specs.Code.Residue.{pair};
 
@@ -54,6 +56,15 @@ impl<M: Multiplier> PolySum<M> {
             sum = self.multiplier.step(sum, u128::from_le_bytes(*block), 1);
         }
         self.sum = sum;
+    }
+
+    // Adds the block that spells this number to the sum.
+    #[inline(always)]
+    fn absorb_number(&mut self, number: u128)
+        ensures { (k m block : List ℕ) → length m % 16 ≡ 0 → length block ≡ 16 → number ≡ le block
+            → PolySumHolds M.factor self.old k m → PolySumHolds M.factor self.new k (m ++ block) }
+    {
+        self.sum = self.multiplier.step(self.sum, number, 1);
     }
 
     // Adds the whole blocks of two halves of equal length to the sum.
@@ -191,13 +202,15 @@ impl<M: Multiplier> PolyBy<M> {
         self.pieces.pad16();
     }
 
-    /// Adds the fewest zero bytes that make the text's length a multiple of 16 bytes, and then a block of 16
-    /// (RFC 8439, 2.8.1).
-    pub fn pad16_and_add(&mut self, block: &[u8; 16])
+    /// Adds the fewest zero bytes that make the text's length a multiple of 16 bytes, and then a block of two numbers of 8 bytes
+    /// each, the least significant byte first (RFC 8439, 2.8.1).
+    pub fn pad16_and_add_two(&mut self, first: u64, second: u64)
         ensures { (k m : List ℕ) → HoldsBy M.factor self.old k m
-            → HoldsBy M.factor self.new k (pad16 m ++ block.now) }
+            → HoldsBy M.factor self.new k (pad16 m ++ (to_le_bytes w64 first ++ to_le_bytes w64 second)) }
     {
-        self.pieces.pad16_and_add(block);
+        let number = u128::from(first) + u128::from(second) * 0x1_0000_0000_0000_0000;
+        self.pieces.pad16();
+        self.pieces.core.absorb_number(number);
     }
 
     /// Returns the tag of the text so far (RFC 8439, 2.5). The key must not be used for a second tag: see [`PolyBy::new`].

@@ -2,6 +2,10 @@
 use Rattle.std.specs.Prelude.{ℕ, List}
 use Rattle.chacha.specs.Block.{add_xor_rotate}
 
+-- the half of the quarter round on four words that rotates by n and by m
+unfoldable pub half_quarter : ℕ → ℕ → List ℕ → List ℕ
+half_quarter n m s = add_xor_rotate 2 3 1 m (add_xor_rotate 0 1 3 n s)
+
 -- the halves of the quarter rounds on the columns that rotate by n and by m
 unfoldable pub half_columns : ℕ → ℕ → List ℕ → List ℕ
 half_columns n m s =

@@ -1,6 +1,6 @@
 -- States whose rows are vectors of words: a state has four neighbouring words of each row.
 use Rattle.std.specs.Prelude.{◌≡◌, ℕ, ◌+◌, ◌*◌, ◌<◌, List, [], ◌∷◌, ◌++◌, length, slice_index, slice_index_or}
-use Rattle.std.proofs.Common.{arith}
+use Rattle.std.proofs.Common.{refl, arith}
 use Rattle.chacha.specs.Stream.{key_stream_byte}
 
 -- the four words of a row from place m on
@@ -30,3 +30,8 @@ one_some = omega arith
 
 pub two_some : 0 < 2
 two_some = omega arith
+
+-- a state has sixteen words
+pub state_long : (x : List (List ℕ)) (n : ℕ) → length (state_in x n) ≡ 16
+unfolding read_by_rows
+state_long x n = refl

@@ -1,10 +1,8 @@
-use Rattle.std.proofs.Common.{◌≡◌, ℕ, ◌∙◌, List, length, refl, ap, arith, add-one}
+use Rattle.std.proofs.Common.{◌≡◌, ◌∙◌, refl, ap, arith}
 use Rattle.chacha.specs.Block.{double_rounds}
 use Rattle.chacha.specs.Code.Lanes.{lane}
-use Rattle.chacha.specs.Code.Halves.{half_columns, half_diagonals}
 use Rattle.chacha.proofs.SideBySide.{length-lane}
-use Rattle.chacha.proofs.Halves.{double_round_in_halves}
-use Rattle.chacha.proofs.Lengths.{length-double_rounds}
+use Rattle.chacha.proofs.Halves.{next_double_round}
 use Rattle.chacha.proofs.lanes.ten_rounds.Goals as goal
 
 pub rounds-init : goal.rounds-init
@@ -12,18 +10,10 @@ unfolding double_rounds
 rounds-init g c = (λ j l. refl, λ w h. h)
 
 pub rounds-preserved : goal.rounds-preserved
-unfolding double_rounds
 rounds-preserved g c = (
-  λ j l.
-      let s : List ℕ = double_rounds c.rounds.counter (lane j c.args.x.now) in
-      let long : length s ≡ 16 =
-      length-double_rounds c.rounds.counter (lane j c.args.x.now) ∙ length-lane j c.args.x.now ∙ c.told-x in
-      rw add-one
-      (c.half_diagonals-in-rounds.ensures j l
-      ∙ ap (half_diagonals 8 7) (c.half_diagonals.ensures j l
-      ∙ ap (half_diagonals 16 12) (c.half_columns-in-rounds.ensures j l
-      ∙ ap (half_columns 8 7) (c.half_columns.ensures j l ∙ ap (half_columns 16 12) (c.rounds.invariant.0 j l))))
-      ∙ double_round_in_halves s long),
+  λ j l. next_double_round c.rounds.counter _ _ _ _ _ _ (length-lane j c.args.x.now ∙ c.told-x) (c.rounds.invariant.0 j l)
+      (c.half_columns.ensures j l) (c.half_columns-in-rounds.ensures j l) (c.half_diagonals.ensures j l)
+      (c.half_diagonals-in-rounds.ensures j l),
   λ w h.
       c.step-in-rounds-3.ensures w (c.step-in-rounds-2.ensures w
       (c.step-in-rounds.ensures w (c.step.ensures w (c.rounds.invariant.1 w h)))),

@@ -1,5 +1,6 @@
-use Rattle.std.proofs.Common.{◌≡◌, ◌∙◌, refl, ap, arith, add-one}
-use Rattle.chacha.specs.Block.{column_round, diagonal_round, double_rounds}
+use Rattle.std.proofs.Common.{◌≡◌, ◌∙◌, refl, ap, arith}
+use Rattle.chacha.specs.Block.{double_rounds}
+use Rattle.chacha.proofs.Halves.{next_double_round}
 use Rattle.chacha.proofs.ByRows.{blocks_put}
 use Rattle.chacha.proofs.rows.put_set.Goals as goal
 
@@ -8,10 +9,10 @@ unfolding double_rounds
 rounds-init g c = (λ n l. refl, λ w h. h)
 
 pub rounds-preserved : goal.rounds-preserved
-unfolding double_rounds
 rounds-preserved g c = (
-  λ n l. rw add-one (c.diagonal_round.ensures n l
-      ∙ ap diagonal_round (c.column_round.ensures n l ∙ ap column_round (c.rounds.invariant.0 n l))),
+  λ n l.
+      next_double_round c.rounds._round _ _ _ _ _ _ (g.met.R.Rows.long c.starts_at-start.result n) (c.rounds.invariant.0 n l)
+      (c.half_columns.ensures n l) (c.half_columns-in-rounds.ensures n l) (c.half_diagonals.ensures n l) (c.half_diagonals-in-rounds.ensures n l),
   λ w h. c.step-in-rounds.ensures w (c.step.ensures w (c.rounds.invariant.1 w h)),
 )
 
