@@ -60,7 +60,8 @@ impl ChaChaPoly {
         ensures { Opened (setting self.now nonce.now aad.now) (text.new ++ result) text.old }
     {
         let key = &self.key;
-        let first = S::make(key, nonce);
+        let mut first = S::zeros();
+        first.set(key, nonce);
         let start = first.blocks();
         let message = BufferedChaCha { key, nonce, start };
         if text.len() <= start.len() - 64 {
@@ -83,7 +84,8 @@ impl ChaChaPoly {
         ensures { OpensInPlace (setting self.now nonce.now aad.now) tag.now body.old body.new result }
     {
         let key = &self.key;
-        let first = S::make(key, nonce);
+        let mut first = S::zeros();
+        first.set(key, nonce);
         let start = first.blocks();
         let message = BufferedChaCha { key, nonce, start };
         if body.len() <= start.len() - 64 {

@@ -66,6 +66,7 @@ impl TagHash for Poly {
         self.rest()
     }
 
+    #[inline(always)]
     fn digest(&mut self, aad_length: u64, bytes_length: u64) -> Block {
         self.pad16_and_add_two(aad_length, bytes_length);
         Block::new(*self.tag().bytes())

@@ -253,8 +253,8 @@ impl Rows for [u32x8; 4] {
     ghost long = { state_long };
 }
 
-// Writes the blocks of one set from a counter on, and does a step of other work in each round. A step is a
-// branch, and stands between the halves of a round for the reason that `lanes` gives.
+// Writes the blocks of one set from a counter on, and does a step of other work in each round. A step is a branch, and it stands
+// between the halves of a round for the reason that `ten_rounds` of `lanes` gives.
 #[inline(always)]
 fn put_set<R: Rows, W: Work>(key: &Key32, counter: u32, nonce: &Nonce, out: &mut [u8], work: &mut W)
     requires counters { counter + R.COUNT ≤ 2 ^ 32 }

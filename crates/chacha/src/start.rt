@@ -1,6 +1,6 @@
 //! The first blocks of a key stream (RFC 8439, 2.4), computed at once: a type for each number of blocks.
 
-ghost use Rattle.std.specs.Prelude.{◌≡◌, ◌%◌, ◌<◌, ◌≤◌, ℕ, List, length, slice_index};
+ghost use Rattle.std.specs.Prelude.{◌≡◌, ◌%◌, ◌<◌, ◌≤◌, ℕ, List, length, replicate, slice_index};
 ghost use Rattle.chacha.specs.Stream.{key_stream_byte};
 
 use crate::rows::{put_three_sets, put_two_blocks, put_two_sets};
@@ -14,11 +14,16 @@ pub trait KeyStreamStart: Drop + Sized {
     // The bytes of the blocks.
     ghost bytes: { Self → List ℕ };
 
-    /// Computes the first blocks of the key stream. As for [`crate::ChaStream::new`], a nonce must never be used twice under one
-    /// key. AEAD_CHACHA20_POLY1305 takes its one-time key from the first 32 bytes (2.6), which must not mask a text.
-    fn make(key: &Key32, nonce: &Nonce) -> Self
-        ensures { (i : ℕ) → i < length (bytes result)
-            → slice_index (bytes result) i ≡ key_stream_byte key.now nonce.now 0 i };
+    /// Returns zeros, which [`KeyStreamStart::set`] replaces.
+    fn zeros() -> Self
+        ensures { bytes result ≡ replicate (length (bytes result)) 0 };
+
+    /// Computes the first blocks of the key stream, in place, since blocks that are returned are copied. As for
+    /// [`crate::ChaStream::new`], a nonce must never be used twice under one key. AEAD_CHACHA20_POLY1305 takes its one-time key
+    /// from the first 32 bytes (2.6), which must not mask a text.
+    fn set(&mut self, key: &Key32, nonce: &Nonce)
+        ensures { (i : ℕ) → i < length (bytes self.new)
+            → slice_index (bytes self.new) i ≡ key_stream_byte key.now nonce.now 0 i };
 
     /// Returns the bytes of the blocks: 64 for each of two to eight.
     fn blocks(&self) -> &[u8]
@@ -37,10 +42,13 @@ pub struct TwoBlocks {
 impl KeyStreamStart for TwoBlocks {
     ghost bytes = { λ s. s.bytes };
 
-    fn make(key: &Key32, nonce: &Nonce) -> TwoBlocks {
-        let mut start = TwoBlocks { bytes: [0; 128] };
-        put_two_blocks(key, 0, nonce, &mut start.bytes, &mut Idle::new());
-        start
+    fn zeros() -> TwoBlocks {
+        TwoBlocks { bytes: [0; 128] }
+    }
+
+    #[inline(always)]
+    fn set(&mut self, key: &Key32, nonce: &Nonce) {
+        put_two_blocks(key, 0, nonce, &mut self.bytes, &mut Idle::new());
     }
 
     fn blocks(&self) -> &[u8] {
@@ -57,10 +65,13 @@ pub struct ThreeBlocks {
 impl KeyStreamStart for ThreeBlocks {
     ghost bytes = { λ s. s.bytes };
 
-    fn make(key: &Key32, nonce: &Nonce) -> ThreeBlocks {
-        let mut start = ThreeBlocks { bytes: [0; 192] };
-        put_three_sets::<[u32x4; 4], Idle>(key, 0, nonce, &mut start.bytes, &mut Idle::new());
-        start
+    fn zeros() -> ThreeBlocks {
+        ThreeBlocks { bytes: [0; 192] }
+    }
+
+    #[inline(always)]
+    fn set(&mut self, key: &Key32, nonce: &Nonce) {
+        put_three_sets::<[u32x4; 4], Idle>(key, 0, nonce, &mut self.bytes, &mut Idle::new());
     }
 
     fn blocks(&self) -> &[u8] {
@@ -77,14 +88,18 @@ pub struct FourBlocks {
 impl KeyStreamStart for FourBlocks {
     ghost bytes = { λ s. s.bytes };
 
-    fn make(key: &Key32, nonce: &Nonce) -> FourBlocks {
-        let mut start = FourBlocks { bytes: [0; 256] };
+    fn zeros() -> FourBlocks {
+        FourBlocks { bytes: [0; 256] }
+    }
+
+    #[inline(always)]
+    fn set(&mut self, key: &Key32, nonce: &Nonce) {
         if WIDE {
-            put_two_sets::<[u32x8; 4], Idle>(key, 0, nonce, &mut start.bytes, &mut Idle::new());
+            put_two_sets::<[u32x8; 4], Idle>(key, 0, nonce, &mut self.bytes, &mut Idle::new());
         } else {
-            lanes::xor_fours(key, 0, nonce, &mut start.bytes, &mut Idle::new());
+            self.bytes = [0; 256];
+            lanes::xor_fours(key, 0, nonce, &mut self.bytes, &mut Idle::new());
         }
-        start
     }
 
     fn blocks(&self) -> &[u8] {
@@ -101,10 +116,14 @@ pub struct FiveBlocks {
 impl KeyStreamStart for FiveBlocks {
     ghost bytes = { λ s. s.bytes };
 
-    fn make(key: &Key32, nonce: &Nonce) -> FiveBlocks {
-        let mut start = FiveBlocks { bytes: [0; 320] };
-        row_beside::xor_five_blocks(key, 0, nonce, &mut start.bytes, &mut Idle::new());
-        start
+    fn zeros() -> FiveBlocks {
+        FiveBlocks { bytes: [0; 320] }
+    }
+
+    #[inline(always)]
+    fn set(&mut self, key: &Key32, nonce: &Nonce) {
+        self.bytes = [0; 320];
+        row_beside::xor_five_blocks(key, 0, nonce, &mut self.bytes, &mut Idle::new());
     }
 
     fn blocks(&self) -> &[u8] {
@@ -121,10 +140,13 @@ pub struct SixBlocks {
 impl KeyStreamStart for SixBlocks {
     ghost bytes = { λ s. s.bytes };
 
-    fn make(key: &Key32, nonce: &Nonce) -> SixBlocks {
-        let mut start = SixBlocks { bytes: [0; 384] };
-        put_three_sets::<[u32x8; 4], Idle>(key, 0, nonce, &mut start.bytes, &mut Idle::new());
-        start
+    fn zeros() -> SixBlocks {
+        SixBlocks { bytes: [0; 384] }
+    }
+
+    #[inline(always)]
+    fn set(&mut self, key: &Key32, nonce: &Nonce) {
+        put_three_sets::<[u32x8; 4], Idle>(key, 0, nonce, &mut self.bytes, &mut Idle::new());
     }
 
     fn blocks(&self) -> &[u8] {
@@ -141,10 +163,14 @@ pub struct EightBlocks {
 impl KeyStreamStart for EightBlocks {
     ghost bytes = { λ s. s.bytes };
 
-    fn make(key: &Key32, nonce: &Nonce) -> EightBlocks {
-        let mut start = EightBlocks { bytes: [0; 512] };
-        lanes::xor_eights(key, 0, nonce, &mut start.bytes, &mut Idle::new());
-        start
+    fn zeros() -> EightBlocks {
+        EightBlocks { bytes: [0; 512] }
+    }
+
+    #[inline(always)]
+    fn set(&mut self, key: &Key32, nonce: &Nonce) {
+        self.bytes = [0; 512];
+        lanes::xor_eights(key, 0, nonce, &mut self.bytes, &mut Idle::new());
     }
 
     fn blocks(&self) -> &[u8] {

@@ -16,6 +16,18 @@ fn word(bytes: &[u8], i: usize) -> u32
     LittleEndian::read_u32(&bytes[4 * i..])
 }
 
+// The little-endian words of the first eight bytes, which are read at once: a nonce was copied as eight bytes and four, and a read
+// of parts of both would wait until they have reached the cache.
+#[inline(always)]
+fn two_words(bytes: &[u8]) -> (u32, u32)
+    requires { 8 ≤ length bytes.now }
+    ensures first { result.0 ≡ le (take 4 bytes.now) }
+    ensures second { result.1 ≡ le (take 4 (drop 4 bytes.now)) }
+{
+    let both = LittleEndian::read_u64(bytes);
+    ((both % 0x1_0000_0000) as u32, (both >> 32) as u32)
+}
+
 // Four constants, eight words of the key, the counter, three words of the nonce.
 #[tactic(auto, unfolding(crate::specs::Block::initial_state))]
 pub(crate) fn initial_state(key: &Key32, counter: u32, nonce: &Nonce) -> [u32; 16]
@@ -23,6 +35,7 @@ pub(crate) fn initial_state(key: &Key32, counter: u32, nonce: &Nonce) -> [u32; 1
 {
     let key = key.bytes();
     let nonce = nonce.bytes();
+    let (first, second) = two_words(nonce);
     [
         0x6170_7865,
         0x3320_646e,
@@ -37,8 +50,8 @@ pub(crate) fn initial_state(key: &Key32, counter: u32, nonce: &Nonce) -> [u32; 1
         word(key, 6),
         word(key, 7),
         counter,
-        word(nonce, 0),
-        word(nonce, 1),
+        first,
+        second,
         word(nonce, 2),
     ]
 }

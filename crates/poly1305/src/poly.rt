@@ -204,6 +204,7 @@ impl<M: Multiplier> PolyBy<M> {
 
     /// Adds the fewest zero bytes that make the text's length a multiple of 16 bytes, and then a block of two numbers of 8 bytes
     /// each, the least significant byte first (RFC 8439, 2.8.1).
+    #[inline(always)]
     pub fn pad16_and_add_two(&mut self, first: u64, second: u64)
         ensures { (k m : List ℕ) → HoldsBy M.factor self.old k m
             → HoldsBy M.factor self.new k (pad16 m ++ (to_le_bytes w64 first ++ to_le_bytes w64 second)) }

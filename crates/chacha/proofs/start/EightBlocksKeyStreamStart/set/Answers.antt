@@ -1,6 +1,6 @@
 use Rattle.chacha.specs.Stream.{key_stream_byte}
 use Rattle.chacha.proofs.Masking.{bytes_from_zeros}
-use Rattle.chacha.proofs.start.EightBlocksKeyStreamStart.make.Goals as goal
+use Rattle.chacha.proofs.start.EightBlocksKeyStreamStart.set.Goals as goal
 
 pub returns : goal.returns
 returns c =
