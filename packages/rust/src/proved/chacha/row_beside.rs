@@ -1,0 +1,70 @@
+// Made from crates/chacha/src/row_beside.rt by tools/erase: not to be edited.
+//! One block of ChaCha20 by rows beside four in lanes (RFC 8439, 2.3): the instructions of a row fit into idle slots
+//! of the lanes.
+
+use crate::proved::chacha::lanes::{
+    RESERVE, add, four_counters, half_columns, half_diagonals, set_starts, xor_serialized,
+};
+use crate::proved::chacha::rows::Rows;
+use crate::proved::octets::{Key32, Nonce, Work, xor_into};
+use crate::simd::{Simd, u32x4};
+
+// Ten double rounds of the lanes, and of the rows beside them, with a step of other work after each half.
+#[inline(always)]
+fn ten_rounds<const N: usize, W: Work>(x: &mut [Simd<u32, N>; 16], row: &mut [u32x4; 4], work: &mut W) {
+    let mut own = *work;
+    for _ in 0..10u32 {
+        half_columns(x, 16, 12);
+        row.half_columns(16, 12);
+        own.step(0);
+        half_columns(x, 8, 7);
+        row.half_columns(8, 7);
+        own.step(RESERVE);
+        half_diagonals(x, 16, 12);
+        row.half_diagonals(16, 12);
+        own.step(0);
+        half_diagonals(x, 8, 7);
+        row.half_diagonals(8, 7);
+        own.step(RESERVE);
+    }
+    *work = own;
+}
+
+// Computes the words of one block in each lane, from the counter of the lane, and returns the block of `counter`, which is
+// computed beside them.
+#[inline(always)]
+fn set_blocks<const N: usize, W: Work>(
+    x: &mut [Simd<u32, N>; 16],
+    key: &Key32,
+    counter: u32,
+    counters: Simd<u32, N>,
+    nonce: &Nonce,
+    work: &mut W,
+) -> [u8; 64] {
+    set_starts(x, key, nonce, counters);
+    let start = *x;
+    let row_start = <[u32x4; 4]>::starts_at(key, counter, nonce);
+    let mut row = row_start;
+    ten_rounds(x, &mut row, work);
+    add(x, &start);
+    let mut out = [0; 64];
+    row.put_sums(&row_start, &mut out);
+    out
+}
+
+// XORs the first 320 bytes of the key stream from a counter on into `bytes`, and does forty steps of other work. It is a
+// separate function, since its frame would slow down runs of eight blocks.
+#[inline(never)]
+pub(in crate::proved::chacha) fn xor_five_blocks<W: Work>(
+    key: &Key32,
+    counter: u32,
+    nonce: &Nonce,
+    bytes: &mut [u8],
+    work: &mut W,
+) {
+    let mut x = [u32x4::splat(0); 16];
+    let first = set_blocks(&mut x, key, counter, four_counters(counter + 1), nonce, work);
+    let (front, back) = bytes.split_at_mut(64);
+    xor_into(front, &first);
+    xor_serialized(&x, back);
+}

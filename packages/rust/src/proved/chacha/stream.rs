@@ -1,0 +1,167 @@
+// Made from crates/chacha/src/stream.rt by tools/erase: not to be edited.
+//! The key stream of ChaCha20 (RFC 8439, 2.4), XORed into a text that comes in pieces. Each part of a piece takes the form of
+//! `lanes`, `row_beside` or `rows` that fits it.
+
+use crate::proved::chacha::interleaved::{hash_interleaved, mask_interleaved};
+use crate::proved::chacha::plan::{
+    FOUR_AT_MOST, ONE_AT_MOST, SIX_AT_MOST, THREE_AT_MOST, TWO_AT_MOST, has_run_of_eight, has_run_of_four,
+};
+use crate::proved::chacha::{lanes, row_beside, rows};
+use crate::proved::octets::{BlockWork, Fault, Idle, Key32, Nonce, Stream, WIDE, Work, xor_into};
+use crate::simd::{u32x4, u32x8};
+
+// The length in bytes of the key stream from counter 0 on: 2^32 blocks of 64 bytes.
+const END: u64 = 0x40_0000_0000;
+
+/// A ChaCha20 key stream and the position of its next byte (RFC 8439, 2.4). A stream is for one text.
+#[derive(Clone, Copy)]
+pub struct ChaStream {
+    key: Key32,
+    nonce: Nonce,
+    // The offset of the next byte in the key stream that starts at counter 0. If it is inside a block, that block is
+    // computed again: the state keeps no bytes of it.
+    offset: u64,
+}
+
+impl ChaStream {
+    /// Returns the key stream that starts with the block of counter `first` (RFC 8439, 2.4), at its first byte.
+    ///
+    /// A nonce must never be used twice under one key. Two texts that are XORed with the same part of a key stream give away
+    /// their XOR, and whoever knows one of them knows the other. The stream authenticates nothing.
+    pub fn new(key: &Key32, nonce: &Nonce, first: u32) -> ChaStream {
+        ChaStream::at(key, nonce, first as u64 * 64)
+    }
+
+    /// Returns the key stream that starts at counter 0, at the byte at `offset`, which is at most its length. As for
+    /// [`ChaStream::new`], no byte of the stream may mask two texts.
+    pub fn at(key: &Key32, nonce: &Nonce, offset: u64) -> ChaStream {
+        ChaStream { key: *key, nonce: *nonce, offset }
+    }
+
+    /// XORs the next bytes of the key stream into `bytes`, of any length (RFC 8439, 2.4). The result does not depend on
+    /// how a text is split into calls.
+    ///
+    /// Returns `StreamEnd` if a block past counter 2^32 - 1 would be needed, and then leaves the stream and the bytes as they
+    /// were. Empty `bytes` need no block.
+    pub fn apply(&mut self, bytes: &mut [u8]) -> Result<(), Fault> {
+        if bytes.len() as u64 > END - self.offset {
+            return Err(Fault::StreamEnd);
+        }
+        xor_stream(&self.key, &self.nonce, self.offset, bytes, &mut Idle::new());
+        self.offset += bytes.len() as u64;
+        Ok(())
+    }
+
+    /// XORs the next bytes of the key stream into `bytes` after the first `begun`, while `hash` takes in the whole blocks of all
+    /// `bytes`, each byte after it is masked.
+    ///
+    /// If a block past counter 2^32 - 1 would be needed, `bytes` stay as they are, and `hash` takes in their whole blocks.
+    pub fn apply_and_hash<W: BlockWork>(&mut self, bytes: &mut [u8], begun: usize, hash: &mut W) {
+        if (bytes.len() - begun) as u64 > END - self.offset {
+            hash.take_all(&bytes[..bytes.len() / 16 * 16]);
+            return;
+        }
+        mask_interleaved(&self.key, &self.nonce, self.offset, bytes, begun, hash);
+        self.offset += (bytes.len() - begun) as u64;
+    }
+
+    /// XORs the next bytes of the key stream into `bytes`, while `hash` takes in their whole blocks, each byte before it is masked.
+    ///
+    /// If a block past counter 2^32 - 1 would be needed, `bytes` stay as they are, and `hash` takes in their whole blocks.
+    pub fn hash_and_apply<W: BlockWork>(&mut self, bytes: &mut [u8], hash: &mut W) {
+        if self.offset + bytes.len() as u64 > END {
+            hash.take_all(&bytes[..bytes.len() / 16 * 16]);
+            return;
+        }
+        hash_interleaved(&self.key, &self.nonce, self.offset, bytes, hash);
+        self.offset += bytes.len() as u64;
+    }
+}
+
+impl Stream for ChaStream {
+    fn apply_next(&mut self, bytes: &mut [u8]) {
+        let _ = self.apply(bytes);
+    }
+}
+
+// XORs the key stream into the bytes, from an offset of the stream that starts at counter 0.
+pub(in crate::proved::chacha) fn xor_stream<W: Work>(
+    key: &Key32,
+    nonce: &Nonce,
+    offset: u64,
+    bytes: &mut [u8],
+    work: &mut W,
+) {
+    let mut done = 0;
+    while done < bytes.len() {
+        done += xor_run(key, nonce, offset + done as u64, &mut bytes[done..], work);
+    }
+}
+
+// XORs the key stream from an offset on into the first bytes, in the widest form that fits, and returns the number of these
+// bytes.
+fn xor_run<W: Work>(key: &Key32, nonce: &Nonce, offset: u64, bytes: &mut [u8], work: &mut W) -> usize {
+    let counter = (offset / 64) as u32;
+    let skip = (offset % 64) as usize;
+    if has_run_of_eight(skip, bytes.len()) {
+        let whole = bytes.len() / 512 * 512;
+        lanes::xor_eights(key, counter, nonce, &mut bytes[..whole], work);
+        return whole;
+    }
+    if has_run_of_four(skip, bytes.len()) {
+        let whole = bytes.len() / 256 * 256;
+        lanes::xor_fours(key, counter, nonce, &mut bytes[..whole], work);
+        return whole;
+    }
+    if WIDE && skip == 0 && bytes.len() > SIX_AT_MOST && counter <= u32::MAX - 7 {
+        let mut stream = [0; 256];
+        let (front, back) = bytes.split_at_mut(256);
+        lanes::xor_eight(key, counter, nonce, front, &mut stream, work);
+        return 256 + xor_part(&stream, 0, back);
+    }
+    if WIDE && skip + bytes.len() > SIX_AT_MOST && counter <= u32::MAX - 7 {
+        let mut stream = [0; 512];
+        lanes::xor_eights(key, counter, nonce, &mut stream, work);
+        return xor_part(&stream, skip, bytes);
+    }
+    if WIDE && skip + bytes.len() > FOUR_AT_MOST && counter <= u32::MAX - 5 {
+        let mut stream = [0; 384];
+        rows::put_three_sets::<[u32x8; 4], W>(key, counter, nonce, &mut stream, work);
+        return xor_part(&stream, skip, bytes);
+    }
+    if WIDE && skip + bytes.len() > TWO_AT_MOST && counter <= u32::MAX - 3 {
+        let mut stream = [0; 256];
+        rows::put_two_sets::<[u32x8; 4], W>(key, counter, nonce, &mut stream, work);
+        return xor_part(&stream, skip, bytes);
+    }
+    if skip + bytes.len() > FOUR_AT_MOST && counter <= u32::MAX - 4 {
+        let mut stream = [0; 320];
+        row_beside::xor_five_blocks(key, counter, nonce, &mut stream, work);
+        return xor_part(&stream, skip, bytes);
+    }
+    if skip + bytes.len() > THREE_AT_MOST && counter <= u32::MAX - 3 {
+        let mut stream = [0; 256];
+        lanes::xor_fours(key, counter, nonce, &mut stream, work);
+        return xor_part(&stream, skip, bytes);
+    }
+    if skip + bytes.len() > TWO_AT_MOST && counter <= u32::MAX - 2 {
+        let mut stream = [0; 192];
+        rows::put_three_sets::<[u32x4; 4], W>(key, counter, nonce, &mut stream, work);
+        return xor_part(&stream, skip, bytes);
+    }
+    if skip + bytes.len() > ONE_AT_MOST && counter <= u32::MAX - 1 {
+        let mut stream = [0; 128];
+        rows::put_two_blocks(key, counter, nonce, &mut stream, work);
+        return xor_part(&stream, skip, bytes);
+    }
+    xor_part(&rows::block(key, counter, nonce), skip, bytes)
+}
+
+// XORs the bytes of `stream` from offset `skip` on into the first bytes, and returns their number. It is a separate
+// function, since inlining would copy it into the code for each width.
+#[inline(never)]
+fn xor_part(stream: &[u8], skip: usize, bytes: &mut [u8]) -> usize {
+    let count = (stream.len() - skip).min(bytes.len());
+    xor_into(&mut bytes[..count], &stream[skip..skip + count]);
+    count
+}
