@@ -86,6 +86,9 @@ fn main() -> io::Result<()> {
     let ["seal" | "open", key_file, label] = words.iter().map(String::as_str).collect::<Vec<_>>()[..] else {
         return Err(io::Error::other("usage: segments seal|open KEYFILE LABEL < IN > OUT"));
     };
+    if label.len() > 200 {
+        return Err(io::Error::other("LABEL is longer than 200 bytes"));
+    }
     let key: [u8; 32] =
         std::fs::read(key_file)?.try_into().map_err(|_| io::Error::other("KEYFILE is not 32 bytes long"))?;
     let (from, to) = (&mut io::stdin().lock(), &mut io::stdout().lock());

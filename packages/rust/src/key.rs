@@ -1,7 +1,10 @@
 //! Keys, and the calls for a whole message.
 
 use crate::error::result;
-use crate::{Aad, Error, NONCE_BYTES, Opener, Sealer, SivSealer, Suite, TAG_BYTES, Tag, raw};
+use crate::proved::capi::key;
+use crate::proved::capi::stored_key::StoredKey;
+use crate::wiped::Wiped;
+use crate::{Aad, Error, NONCE_BYTES, Opener, Sealer, SivSealer, Suite, TAG_BYTES, Tag};
 #[cfg(feature = "alloc")]
 use alloc::{vec, vec::Vec};
 use core::fmt;
@@ -19,7 +22,7 @@ use core::fmt;
 #[derive(Clone)]
 pub struct Key {
     suite: Suite,
-    schedule: raw::Key,
+    schedule: Wiped<StoredKey>,
 }
 
 impl Key {
@@ -29,8 +32,8 @@ impl Key {
     ///
     /// `KeyLength`: `key` is not [`Suite::key_bytes`] long.
     pub fn new(suite: Suite, key: &[u8]) -> Result<Key, Error> {
-        let mut schedule = raw::Key::zeros();
-        result(raw::key_init(&mut schedule, suite as u32, key))?;
+        let mut schedule = Wiped::<StoredKey>::zeros();
+        result(schedule.init(suite as u32, key))?;
         Ok(Key { suite, schedule })
     }
 
@@ -78,7 +81,7 @@ impl Key {
     /// - `TextTooLong`: the text is longer than the suite's limit
     /// - `OutputLength`: `sealed` is not 16 bytes longer than `text`
     pub fn seal(&self, nonce: &[u8; NONCE_BYTES], text: &[u8], sealed: &mut [u8], aad: Aad<'_>) -> Result<(), Error> {
-        result(raw::seal(&self.schedule, nonce, text, aad.0, sealed))
+        result(key::aeadkit_seal_with(&self.schedule, nonce, text, aad.0, sealed))
     }
 
     /// Opens a ciphertext that is followed by its tag to other memory: on success `text` is the text.
@@ -92,7 +95,7 @@ impl Key {
     /// - `OutputLength`: `text` is not 16 bytes shorter than `sealed`
     /// - `TagMismatch`: authentication failed
     pub fn open(&self, nonce: &[u8; NONCE_BYTES], sealed: &[u8], text: &mut [u8], aad: Aad<'_>) -> Result<(), Error> {
-        result(raw::open(&self.schedule, nonce, sealed, aad.0, text))
+        result(key::aeadkit_open_with(&self.schedule, nonce, sealed, aad.0, text))
     }
 
     /// Seals a text where it stands, and returns its tag: on success `text` is the ciphertext, of the same length.
@@ -104,7 +107,7 @@ impl Key {
     /// - `TextTooLong`: the text is longer than the suite's limit
     pub fn seal_in_place(&self, nonce: &[u8; NONCE_BYTES], text: &mut [u8], aad: Aad<'_>) -> Result<Tag, Error> {
         let mut tag = [0; TAG_BYTES];
-        result(raw::seal_in_place(&self.schedule, nonce, text, aad.0, &mut tag))?;
+        result(key::aeadkit_seal_in_place_with(&self.schedule, nonce, text, aad.0, &mut tag))?;
         Ok(Tag(tag))
     }
 
@@ -123,7 +126,7 @@ impl Key {
         tag: &[u8; TAG_BYTES],
         aad: Aad<'_>,
     ) -> Result<(), Error> {
-        result(raw::open_in_place(&self.schedule, nonce, ciphertext, aad.0, tag))
+        result(key::aeadkit_open_in_place_with(&self.schedule, nonce, ciphertext, aad.0, tag))
     }
 
     /// Begins a sealing in pieces, of an empty text so far.
@@ -134,8 +137,8 @@ impl Key {
     /// - `UnknownSuite`: the suite is an AES-GCM-SIV, which reads a text twice: use [`Key::siv_sealer`]
     /// - `AadTooLong`: `aad` is longer than the suite's limit
     pub fn sealer(&self, nonce: &[u8; NONCE_BYTES], aad: Aad<'_>) -> Result<Sealer, Error> {
-        let mut state = raw::Sealer::default();
-        result(raw::sealer_init(&mut state, &self.schedule, nonce, aad.0))?;
+        let mut state = Wiped::zeros();
+        result(key::aeadkit_sealer_init_with(&mut state, &self.schedule, nonce, aad.0))?;
         Ok(Sealer { state })
     }
 
@@ -147,8 +150,8 @@ impl Key {
     /// - `UnknownSuite`: the suite is not an AES-GCM-SIV, and reads a text once: use [`Key::sealer`]
     /// - `AadTooLong`: `aad` is longer than the suite's limit
     pub fn siv_sealer(&self, nonce: &[u8; NONCE_BYTES], aad: Aad<'_>) -> Result<SivSealer, Error> {
-        let mut state = raw::Siv::default();
-        result(raw::siv_init(&mut state, &self.schedule, nonce, aad.0))?;
+        let mut state = Wiped::zeros();
+        result(key::aeadkit_siv_init_with(&mut state, &self.schedule, nonce, aad.0))?;
         Ok(SivSealer { state })
     }
 
@@ -158,8 +161,8 @@ impl Key {
     ///
     /// `AadTooLong`: `aad` is longer than the suite's limit.
     pub fn opener(&self, nonce: &[u8; NONCE_BYTES], tag: &[u8; TAG_BYTES], aad: Aad<'_>) -> Result<Opener, Error> {
-        let mut state = raw::Opener::default();
-        result(raw::opener_init(&mut state, &self.schedule, nonce, aad.0, tag))?;
+        let mut state = Wiped::zeros();
+        result(key::aeadkit_opener_init_with(&mut state, &self.schedule, nonce, aad.0, tag))?;
         Ok(Opener { state })
     }
 }

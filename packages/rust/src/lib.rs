@@ -1,5 +1,5 @@
 //! Authenticated encryption (ChaCha20-Poly1305 of RFC 8439, AES-GCM of SP 800-38D, AES-GCM-SIV of RFC 8452) and key wrapping
-//! (RFC 3394, RFC 5649), over libaeadkit.a, whose code is proved.
+//! (RFC 3394, RFC 5649), whose source is proved to compute what the standards say.
 //!
 #![cfg_attr(feature = "alloc", doc = "```")]
 #![cfg_attr(not(feature = "alloc"), doc = "```ignore")]
@@ -41,31 +41,60 @@
 //! pieces are wiped when they are dropped. The caller's slices, the stack, and the places that a key or a state was moved from
 //! are not.
 //!
-//! A call takes up to 12 KiB of stack in the library, however long the text is.
+//! A call takes up to 12 KiB of stack in an optimized build, however long the text is.
 //!
-//! The crate is `no_std`. Without its default feature `alloc` it has no calls that return vectors. The library calls
-//! `memcpy`, `memmove`, `memset` and `bcmp`, which the C library has. It is for Linux on x86-64 and AArch64, and the build for any
-//! other target, such as `x86_64-unknown-none` of a kernel, fails. If the program is compiled for processors with AVX2, as with
-//! `RUSTFLAGS="-C target-cpu=x86-64-v3"`, the library's build for these is linked.
+//! The crate is `no_std`, and without its default feature `alloc` it has no calls that return vectors. It is for processors with
+//! pointers of 64 bits, in either order of bytes. On x86-64 it needs SSSE3, which x86-64-v2 has, and no flags. A program for
+//! processors with AVX2 or AVX-512, as with `RUSTFLAGS="-C target-cpu=x86-64-v3"`, has faster code. On AArch64 it uses NEON. On any
+//! other processor vectors are made of integers: ChaCha20-Poly1305 is fast there, AES slow.
+//!
+//! # What is proved
+//!
+//! The modules in `src/proved` are the source of the repository's `crates`, which is Rust with contracts that are proved, without the
+//! contracts. Your compiler builds them. The rest is not proved: it hands the arguments over (this API), and gives the source its
+//! vectors (`src/simd`) and its allocations (`src/kit`). The tests compare each operation on vectors with a plain definition. Unsafe
+//! code stands in `src/simd` and in `src/wiped.rs`. `python3 tools/erase/erase.py --check` in the repository shows that
+//! `src/proved` is what the proved source becomes.
 
 #![no_std]
 #![deny(unsafe_code)]
-#![warn(missing_docs)]
+#![cfg_attr(not(feature = "internals"), warn(missing_docs))]
+
+#[cfg(not(target_pointer_width = "64"))]
+compile_error!("aeadkit is proved for processors with pointers of 64 bits, and is not built for others");
 
 #[cfg(feature = "alloc")]
 extern crate alloc;
+#[cfg(any(test, feature = "internals"))]
+extern crate std;
 
 mod aad;
 mod error;
 mod key;
+#[allow(dead_code, reason = "the API allocates nothing by it")]
+mod kit;
 mod opener;
-#[allow(unsafe_code)]
-mod raw;
+mod proved;
 mod sealer;
+mod simd;
 mod siv;
 mod suite;
 mod tag;
+#[cfg(test)]
+mod tests;
+mod wiped;
 mod wrap;
+
+/// No part of the API: what the program, the library for C and the tests of the repository are built from.
+#[cfg(feature = "internals")]
+#[doc(hidden)]
+pub mod internals {
+    pub use crate::proved::*;
+
+    pub mod kit {
+        pub use crate::kit::*;
+    }
+}
 
 pub use aad::Aad;
 pub use error::Error;

@@ -1,14 +1,16 @@
 //! Openings in pieces, in two passes.
 
+use crate::Error;
 use crate::error::result;
-use crate::{Error, raw};
+use crate::proved::capi::opener::{self, StoredOpener};
+use crate::wiped::Wiped;
 use core::fmt;
 
 /// The first pass of an opening in pieces, under every suite, which gives no text: [`Key::opener`](crate::Key::opener), then
 /// [`Opener::check`] for each piece of the ciphertext, then [`Opener::begin_second`]. The state is wiped when it is dropped.
 #[must_use = "an opening that is not checked gives no text"]
 pub struct Opener {
-    pub(crate) state: raw::Opener,
+    pub(crate) state: Wiped<StoredOpener>,
 }
 
 /// The second pass, after the first was authenticated, which decrypts: [`CheckedOpener::update`] for each piece of the
@@ -16,7 +18,7 @@ pub struct Opener {
 /// is dropped.
 #[must_use = "the text comes from the second pass, which `finish` ends"]
 pub struct CheckedOpener {
-    state: raw::Opener,
+    state: Wiped<StoredOpener>,
 }
 
 impl Opener {
@@ -28,7 +30,7 @@ impl Opener {
     /// `TextTooLong`: the ciphertext would be longer than the suite's limit. The piece does not count, and a shorter one
     /// may follow.
     pub fn check(&mut self, piece: &[u8]) -> Result<(), Error> {
-        result(raw::opener_check(&mut self.state, piece))
+        result(opener::aeadkit_opener_check(&mut self.state, piece))
     }
 
     /// Ends the first pass, and returns the second.
@@ -37,7 +39,7 @@ impl Opener {
     ///
     /// `TagMismatch`: authentication failed.
     pub fn begin_second(mut self) -> Result<CheckedOpener, Error> {
-        result(raw::aeadkit_opener_begin_second(&mut self.state))?;
+        result(opener::aeadkit_opener_begin_second(&mut self.state))?;
         Ok(CheckedOpener { state: self.state })
     }
 }
@@ -50,7 +52,7 @@ impl CheckedOpener {
     ///
     /// `SourceChanged`: the second pass would be longer than the first. The piece is not changed and does not count.
     pub fn update(&mut self, piece: &mut [u8]) -> Result<(), Error> {
-        result(raw::opener_update(&mut self.state, piece))
+        result(opener::aeadkit_opener_update(&mut self.state, piece))
     }
 
     /// Ends the second pass.
@@ -59,7 +61,7 @@ impl CheckedOpener {
     ///
     /// `SourceChanged`: authentication of the second pass failed. Throw away what `update` made.
     pub fn finish(mut self) -> Result<(), Error> {
-        result(raw::aeadkit_opener_finish(&mut self.state))
+        result(opener::aeadkit_opener_finish(&mut self.state))
     }
 }
 

@@ -1,7 +1,9 @@
 //! Sealings in pieces, in one reading.
 
 use crate::error::result;
-use crate::{Error, TAG_BYTES, Tag, raw};
+use crate::proved::capi::sealer::{self, StoredSealer};
+use crate::wiped::Wiped;
+use crate::{Error, TAG_BYTES, Tag};
 use core::fmt;
 
 /// A sealing in pieces, under ChaCha20-Poly1305 or AES-GCM: [`Key::sealer`](crate::Key::sealer), then [`Sealer::update`] for
@@ -14,7 +16,7 @@ use core::fmt;
 /// [`Key`](crate::Key#nonces). A fork copies a sealing: go on with it in one of the two processes.
 #[must_use = "a sealing that is not finished has no tag"]
 pub struct Sealer {
-    pub(crate) state: raw::Sealer,
+    pub(crate) state: Wiped<StoredSealer>,
 }
 
 impl Sealer {
@@ -25,13 +27,13 @@ impl Sealer {
     /// `TextTooLong`: the text would be longer than the suite's limit. The piece is not changed and does not count, and a
     /// shorter one may follow.
     pub fn update(&mut self, piece: &mut [u8]) -> Result<(), Error> {
-        result(raw::sealer_update(&mut self.state, piece))
+        result(sealer::aeadkit_sealer_update(&mut self.state, piece))
     }
 
     /// Ends the sealing, and returns the tag of the text.
     pub fn finish(mut self) -> Tag {
         let mut tag = [0; TAG_BYTES];
-        result(raw::aeadkit_sealer_finish(&mut self.state, &mut tag)).expect("the sealing was begun");
+        result(sealer::aeadkit_sealer_finish(&mut self.state, &mut tag)).expect("the sealing was begun");
         Tag(tag)
     }
 }

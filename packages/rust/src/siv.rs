@@ -1,7 +1,9 @@
 //! Sealings in pieces under AES-GCM-SIV, in two readings.
 
 use crate::error::result;
-use crate::{Error, TAG_BYTES, Tag, raw};
+use crate::proved::capi::siv::{self, StoredSiv};
+use crate::wiped::Wiped;
+use crate::{Error, TAG_BYTES, Tag};
 use core::fmt;
 
 /// The first reading of a sealing in pieces under AES-GCM-SIV, whose tag depends on the whole text and encrypts it:
@@ -11,7 +13,7 @@ use core::fmt;
 /// Never use its nonce again once it gave a tag: see [`Key`](crate::Key#nonces).
 #[must_use = "a sealing that is not finished has no tag"]
 pub struct SivSealer {
-    pub(crate) state: raw::Siv,
+    pub(crate) state: Wiped<StoredSiv>,
 }
 
 /// The second reading, which encrypts the text: [`SivWriter::update`] for each piece again, then [`SivWriter::finish`].
@@ -21,7 +23,7 @@ pub struct SivSealer {
 /// the two processes.
 #[must_use = "the ciphertext comes from the second reading, which `finish` ends"]
 pub struct SivWriter {
-    state: raw::Siv,
+    state: Wiped<StoredSiv>,
 }
 
 impl SivSealer {
@@ -32,13 +34,13 @@ impl SivSealer {
     /// `TextTooLong`: the text would be longer than the suite's limit. The piece does not count, and a shorter one may
     /// follow.
     pub fn absorb(&mut self, piece: &[u8]) -> Result<(), Error> {
-        result(raw::siv_absorb(&mut self.state, piece))
+        result(siv::aeadkit_siv_absorb(&mut self.state, piece))
     }
 
     /// Ends the first reading, and returns the tag of its text and the second reading.
     pub fn begin_second(mut self) -> (Tag, SivWriter) {
         let mut tag = [0; TAG_BYTES];
-        result(raw::aeadkit_siv_begin_second(&mut self.state, &mut tag)).expect("the sealing was begun");
+        result(siv::aeadkit_siv_begin_second(&mut self.state, &mut tag)).expect("the sealing was begun");
         (Tag(tag), SivWriter { state: self.state })
     }
 }
@@ -51,7 +53,7 @@ impl SivWriter {
     ///
     /// `SourceChanged`: the second reading would be longer than the first. The piece is not changed and does not count.
     pub fn update(&mut self, piece: &mut [u8]) -> Result<(), Error> {
-        result(raw::siv_update(&mut self.state, piece))
+        result(siv::aeadkit_siv_update(&mut self.state, piece))
     }
 
     /// Ends the second reading.
@@ -60,7 +62,7 @@ impl SivWriter {
     ///
     /// `SourceChanged`: its text had another length or another tag than the first. Throw away what `update` made.
     pub fn finish(mut self) -> Result<(), Error> {
-        result(raw::aeadkit_siv_finish(&mut self.state))
+        result(siv::aeadkit_siv_finish(&mut self.state))
     }
 }
 

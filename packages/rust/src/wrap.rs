@@ -1,9 +1,10 @@
 //! Key wrapping of RFC 3394, and with padding of RFC 5649.
 
+use crate::Error;
 #[cfg(feature = "alloc")]
 use crate::WRAP_BYTES;
 use crate::error::result;
-use crate::{Error, raw};
+use crate::proved::capi::key_wrap;
 #[cfg(feature = "alloc")]
 use alloc::{vec, vec::Vec};
 use core::fmt;
@@ -32,7 +33,7 @@ impl fmt::Debug for WrappingKey<'_> {
 /// - `WrapLength`: `text` is shorter than 16 bytes, or its length is not a multiple of 8
 /// - `OutputLength`: `wrapped` is not 8 bytes longer than `text`
 pub fn wrap(key: WrappingKey<'_>, text: &[u8], wrapped: &mut [u8]) -> Result<(), Error> {
-    result(raw::wrap(key.0, text, wrapped))
+    result(key_wrap::aeadkit_wrap(key.0, text, wrapped))
 }
 
 /// Unwraps to other memory what [`wrap`] made: on success `text` is the text.
@@ -45,7 +46,7 @@ pub fn wrap(key: WrappingKey<'_>, text: &[u8], wrapped: &mut [u8]) -> Result<(),
 /// - `OutputLength`: `text` is not 8 bytes shorter than `wrapped`
 /// - `WrapIntegrity`: `wrapped` is not a valid wrapping under this key
 pub fn unwrap(key: WrappingKey<'_>, wrapped: &[u8], text: &mut [u8]) -> Result<(), Error> {
-    result(raw::unwrap(key.0, wrapped, text))
+    result(key_wrap::aeadkit_unwrap(key.0, wrapped, text))
 }
 
 /// Wraps a text of any length from 1 to 2^32 - 1 bytes to other memory (RFC 5649).
@@ -60,7 +61,7 @@ pub fn unwrap(key: WrappingKey<'_>, wrapped: &[u8], text: &mut [u8]) -> Result<(
 /// - `TextTooLong`: the text is longer than 2^32 - 1 bytes
 /// - `OutputLength`: `wrapped` does not have that length
 pub fn wrap_padded(key: WrappingKey<'_>, text: &[u8], wrapped: &mut [u8]) -> Result<(), Error> {
-    result(raw::wrap_padded(key.0, text, wrapped))
+    result(key_wrap::aeadkit_wrap_padded(key.0, text, wrapped))
 }
 
 /// Unwraps to other memory what [`wrap_padded`] made, and returns the part of `text` that is the text.
@@ -77,7 +78,7 @@ pub fn wrap_padded(key: WrappingKey<'_>, text: &[u8], wrapped: &mut [u8]) -> Res
 /// - `WrapIntegrity`: `wrapped` is not a valid wrapping with padding under this key
 pub fn unwrap_padded<'a>(key: WrappingKey<'_>, wrapped: &[u8], text: &'a mut [u8]) -> Result<&'a [u8], Error> {
     let mut length = 0;
-    result(raw::unwrap_padded(key.0, wrapped, text, &mut length))?;
+    result(key_wrap::aeadkit_unwrap_padded(key.0, wrapped, text, &mut length))?;
     Ok(&text[..length])
 }
 

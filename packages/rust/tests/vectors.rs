@@ -1,5 +1,7 @@
 //! The vectors of `docs/published.vectors` and `docs/edges.vectors`, in the format of `docs/VECTOR-FILES.md`.
 
+mod forms;
+
 use aeadkit::{
     Aad, Error, Key, Suite, WrappingKey, unwrap_padded_to_vec, unwrap_to_vec, wrap_padded_to_vec, wrap_to_vec,
 };
@@ -9,24 +11,29 @@ fn bytes(hex: &str) -> Vec<u8> {
     hex.as_bytes().chunks(2).map(|pair| u8::from_str_radix(std::str::from_utf8(pair).unwrap(), 16).unwrap()).collect()
 }
 
-/// Wants a record to have the sealing of its text, or if it is `invalid` to be refused.
-fn check(record: &HashMap<&str, &str>) {
+/// The lengths of pieces, of which each record takes another one than the record before.
+const PIECES: [usize; 8] = [1, 7, 16, 61, 64, 200, 511, 1500];
+
+/// Wants a record to have the sealing of its text, or if it is `invalid` to be refused, by every call.
+fn check(record: &HashMap<&str, &str>, piece: usize) {
     let bytes_of = |name| record.get(name).map(|hex| bytes(hex)).unwrap_or_default();
     let [key, nonce, aad, sealed, text] = ["key", "nonce", "aad", "sealed", "text"].map(bytes_of);
-    let (name, wrapping_key, aad) = (record["suite"], WrappingKey(&key), Aad(&aad));
-    let (opened, made) = if let Ok(suite) = name.parse() {
+    let (name, is_invalid) = (record["suite"], record.contains_key("invalid"));
+    if let Ok(suite) = name.parse() {
         let (key, nonce) = (Key::new(suite, &key).unwrap(), nonce.try_into().unwrap());
-        (key.open_to_vec(&nonce, &sealed, aad), key.seal_to_vec(&nonce, &text, aad))
-    } else if name.ends_with("-wrap-pad") {
-        (unwrap_padded_to_vec(wrapping_key, &sealed), wrap_padded_to_vec(wrapping_key, &text))
-    } else {
-        (unwrap_to_vec(wrapping_key, &sealed), wrap_to_vec(wrapping_key, &text))
+        return match is_invalid {
+            true => forms::refuse(&key, &nonce, &sealed, Aad(&aad), piece),
+            false => forms::agree(&key, &nonce, &text, &sealed, Aad(&aad), piece),
+        };
+    }
+    let key = WrappingKey(&key);
+    let (opened, made) = match name.ends_with("-wrap-pad") {
+        true => (unwrap_padded_to_vec(key, &sealed), wrap_padded_to_vec(key, &text)),
+        false => (unwrap_to_vec(key, &sealed), wrap_to_vec(key, &text)),
     };
-    if record.contains_key("invalid") {
-        let error = opened.unwrap_err();
-        assert!(matches!(error, Error::TagMismatch | Error::TooShort | Error::WrapIntegrity | Error::WrapLength));
-    } else {
-        assert_eq!((opened, made), (Ok(text), Ok(sealed)));
+    match is_invalid {
+        true => assert!(matches!(opened.unwrap_err(), Error::WrapIntegrity | Error::WrapLength)),
+        false => assert_eq!((opened, made), (Ok(text), Ok(sealed))),
     }
 }
 
@@ -35,13 +42,13 @@ fn check_file(path: &str) {
     let Ok(file) = std::fs::read_to_string(path) else {
         return eprintln!("skipped: {path} is not there, as outside the repository");
     };
-    let (mut record, mut suites) = (HashMap::new(), BTreeSet::new());
+    let (mut record, mut suites, mut pieces) = (HashMap::new(), BTreeSet::new(), PIECES.into_iter().cycle());
     for line in file.lines().map(str::trim_end).filter(|line| !line.is_empty() && !line.starts_with('#')) {
         let (name, value) = line.split_once('=').unwrap_or((line, ""));
         record.insert(name.trim_end(), value.trim_start());
         if ["text", "invalid"].contains(&name.trim_end()) {
             println!("{record:?}"); // which is shown if it fails
-            check(&record);
+            check(&record, pieces.next().unwrap());
             suites.insert(record["suite"]);
             record.clear();
         }
