@@ -1,11 +1,13 @@
 #!/bin/sh
-# What the Makefile runs to build and to pack: lib.sh library|program|wasm|standin|standin-wasm|ready|native|again|compilers PREFIX,
-# lib.sh dist|missing, or lib.sh same FOLDER FOLDER.
-# BUILD is the folder of the copies that are proved. BUILDS names the builds of the library, and PROGRAM that of the program:
-# `default` and `avx2` are for x86-64, and may stand in one prefix, and `aarch64` needs a prefix of its own.
+# What the Makefile runs to build and to pack: lib.sh library|program|wasm|ready|native|again|compilers PREFIX, lib.sh dist|missing,
+# or lib.sh same FOLDER FOLDER.
+# FROM says who compiles the proved source: `kit`, the Rattle kit, which proves it before, or `rust`, which is cargo. BUILD is the folder of
+# the work. BUILDS names the builds of the library, and PROGRAM that of the program: `default`, `avx2` and, by cargo alone, `avx512` are for
+# x86-64, and may stand in one prefix, and `aarch64` needs a prefix of its own. CARGO and RUSTC name other tools than those in PATH.
 set -eu
 top=$(cd "$(dirname "$0")/../.." && pwd)
 build=${BUILD:-$top-build}
+from=${FROM:-kit}
 exports=$top/packages/c/exports.map
 version=$(sed -n 's/^pub const VERSION: &str = "\(.*\)";$/\1/p' "$top/crates/command/src/version.rt")
 major=${version%%.*}
@@ -22,8 +24,25 @@ needs() {
     done
 }
 needs_rt() {
-    command -v "${RT:-rt}" > /dev/null || fail "rt is not there: put the bin folder of the Rattle kit into PATH"
+    command -v "${RT:-rt}" > /dev/null ||
+        fail "rt is not there: put the bin folder of the Rattle kit into PATH, or let cargo compile the library, with FROM=rust"
     needs python3:python3
+}
+
+# Prints the oldest rustc that takes the sources, and what is wrong with cargo and rustc, if they are not there or older.
+oldest() {
+    sed -n 's/^rust-version = "\(.*\)"$/\1/p' "$top/packages/rust/Cargo.toml"
+}
+wrong_rust() {
+    for tool in "${CARGO:-cargo}" "${RUSTC:-rustc}"; do
+        there=$("$tool" --version 2> /dev/null | cut -d ' ' -f 2) || there=
+        [ -n "$there" ] || echo "$tool is not there"
+        [ -z "$there" ] || printf '%s\n' "$(oldest)" "$there" | sort -VC || echo "$tool $there is too old"
+    done
+}
+needs_rust() {
+    wrong=$(wrong_rust | paste -sd, | sed 's/,/, and /')
+    [ -z "$wrong" ] || fail "$wrong: install Rust $(oldest) or a later one, by rustup (https://rustup.rs) or as Debian's package cargo-web"
 }
 
 # Prints a file with the version in the place of 0.0.0, and with its numbers in the macros of the header: filled FILE
@@ -49,6 +68,17 @@ copied() {
         done
     done
     [ "$1" != avx2 ] || cp "$top/tools/build/vector_width_avx2.txt" "$room/crates/octets/src/vector_width.rt"
+}
+
+# Compiles the calls for C by cargo, and sets `objects` to what comes out, one object: by_cargo NAME FLAG.. of rustc
+# The crate has no dependency but the source of packages/rust. With `target`, it is compiled for that one.
+by_cargo() {
+    room=$build/cargo/$1
+    shift
+    RUSTFLAGS="$*" CARGO_TARGET_DIR=$room "${CARGO:-cargo}" build --quiet --release --locked --offline ${target:+--target $target} \
+        --manifest-path "$top/packages/c/rust/Cargo.toml" || fail "cargo does not compile packages/c/rust"
+    archive=$room/${target:+$target/}release/libaeadkit.a objects=$room/objects.o
+    "$ar" p "$archive" "$("$ar" t "$archive" | grep '^aeadkit-')" > "$objects"
 }
 
 # Runs rt in a crate of the copy, and prints what was proved: proved CRATE WORD.. of rt
@@ -89,7 +119,14 @@ linked() {
     ln -sf "libaeadkit.so.$version" "$3/libaeadkit.so.$major"
     ln -sf "libaeadkit.so.$major" "$3/libaeadkit.so"
 }
-cc=cc ld=ld ar=ar objcopy=objcopy
+cc=cc ld=ld ar=ar objcopy=objcopy target=''
+
+# Sets the tools to those for AArch64 of Debian, and the target to AArch64, if this machine is another one.
+tools_for_aarch64() {
+    target=aarch64-unknown-linux-gnu
+    [ "$(uname -m)" != aarch64 ] || return 0
+    cc=aarch64-linux-gnu-gcc ld=aarch64-linux-gnu-ld ar=aarch64-linux-gnu-ar objcopy=aarch64-linux-gnu-objcopy
+}
 
 # Sets these tools to those of the kit, for AArch64: its clang is each of them under another name, and the types of overlap.c are
 # its own. No C library for that processor is needed, and none is linked: memcpy, memmove, memset and bcmp are those of the program,
@@ -123,29 +160,42 @@ interface() {
     done
 }
 
-# Fails, before anything is proved, at builds that cannot stand in this prefix, and at missing tools.
+# Fails, before anything is compiled, at builds that cannot stand in this prefix, and at missing tools.
 buildable() {
-    needs_rt
+    if [ "$from" = rust ]; then needs_rust; else needs_rt; fi
     for kind in $builds; do
-        case $kind in
-        default | avx2) needs cc:gcc ld:binutils ar:binutils objcopy:binutils
+        case $from-$kind in
+        *-default | *-avx2 | rust-avx512) needs cc:gcc ld:binutils ar:binutils objcopy:binutils
+            [ "$from" = kit ] || [ "$(uname -m)" = x86_64 ] || fail "BUILDS=\"$builds\": on this machine build aarch64"
             wanted=x86_64 ;;
-        aarch64)
+        *-aarch64)
             [ "$builds" = aarch64 ] || fail "BUILDS=\"$builds\": a prefix is for one processor, so build aarch64 alone, into another PREFIX"
+            [ "$from" = kit ] || aarch64_by_cargo
             wanted=aarch64 ;;
-        *) fail "BUILDS=\"$builds\": there is no build '$kind', but default, avx2 and aarch64" ;;
+        kit-avx512) fail "BUILDS=\"$builds\": the kit does not compile for AVX-512: give FROM=rust" ;;
+        *) fail "BUILDS=\"$builds\": there is no build '$kind', but default, avx2, aarch64 and, with FROM=rust, avx512" ;;
         esac
     done
     there=$(processor "$prefix/lib/libaeadkit.so")
     [ "$there" = none ] || [ "$there" = "$wanted" ] || fail "$prefix has the library for $there: give another PREFIX for $wanted"
 }
 
+# Fails unless cargo can compile for AArch64, and the tools for what it compiled are there.
+aarch64_by_cargo() {
+    tools_for_aarch64
+    needs "$cc:gcc-aarch64-linux-gnu" "$objcopy:binutils-aarch64-linux-gnu"
+    core=$(find "$("${RUSTC:-rustc}" --print target-libdir --target "$target")" -name 'libcore-*' 2> /dev/null || true)
+    [ -n "$core" ] || fail "${RUSTC:-rustc} has no library for $target: let rustup add it (rustup target add $target), or install Debian's" \
+        "cargo-web and libstd-rust-web-dev:arm64, after dpkg --add-architecture arm64, and set RUSTC=/usr/bin/rustc"
+}
+
 # Prints the packages of Debian that `make check` needs and that are not there.
 missing() {
-    for tool in cc:gcc c++:g++ ld:binutils make:make cmake:cmake pkg-config:pkg-config python3:python3 node:nodejs npm:npm cargo:cargo \
-        wasm-dis:binaryen groff:groff; do
+    for tool in cc:gcc c++:g++ ld:binutils make:make cmake:cmake pkg-config:pkg-config python3:python3 groff:groff \
+        $([ "$from" = rust ] || echo node:nodejs npm:npm wasm-dis:binaryen); do
         command -v "${tool%:*}" > /dev/null || echo "${tool#*:}"
     done
+    [ -z "$(wrong_rust)" ] || echo cargo-web
     "${PYTHON:-python3}" -c 'import setuptools' 2> /dev/null || echo python3-setuptools
     [ -e "$("${PYTHON:-python3}" -c 'import sysconfig; print(sysconfig.get_path("include"))' 2> /dev/null)/Python.h" ] || echo python3-dev
 }
@@ -161,7 +211,7 @@ ready() {
 # Fails if the library in this prefix does not run on this machine.
 native() {
     there=$(processor "$prefix/lib/libaeadkit.so")
-    [ "$there" = none ] || [ "$there" = x86_64 ] || fail "$prefix has the library for $there: give another PREFIX, or make check-aarch64"
+    [ "$there" = none ] || [ "$there" = "$(uname -m)" ] || fail "$prefix has the library for $there: give another PREFIX, or make check-aarch64"
 }
 
 # Prints the processor of an ELF file: x86_64, aarch64, another one's number, or none if there is no file.
@@ -174,24 +224,44 @@ processor() {
     esac
 }
 
+# Compiles the library for one of BUILDS, and sets `objects` to what comes out: compiled KIND
+# For AArch64 there is no second build: that for neoverse-v2 takes more instructions for AES, and no loader would choose it.
+compiled() {
+    case $from-$1 in
+    rust-default) by_cargo default -C target-cpu=x86-64-v2 ;;
+    rust-avx2) by_cargo avx2 -C target-cpu=x86-64-v3 ;;
+    rust-avx512) by_cargo avx512 -C target-cpu=x86-64-v4 ;;
+    rust-aarch64)
+        tools_for_aarch64
+        by_cargo aarch64 ;;
+    kit-*)
+        copied "$1"
+        words=''
+        [ "$1" != avx2 ] || words=--cpu=x86-64-v3
+        [ "$1" != aarch64 ] || words='--target aarch64-unknown-linux-gnu'
+        # shellcheck disable=SC2086
+        proved capi lib $words
+        [ "$1" != aarch64 ] || tools_of_kit
+        objects=$room/crates/capi/out/libcapi.a ;;
+    esac
+}
+
 library() {
     builds=${BUILDS:-default avx2}
     buildable
     interface
-    # A build for AVX2 that stays from an earlier run would be loaded in place of this library.
-    rm -f "$prefix/lib/x86-64-v3/libaeadkit.a" "$prefix/lib/glibc-hwcaps/x86-64-v3/libaeadkit.so"*
+    # A build for a newer processor that stays from an earlier run would be loaded in place of this library.
+    for level in x86-64-v3 x86-64-v4; do
+        rm -f "$prefix/lib/$level/libaeadkit.a" "$prefix/lib/glibc-hwcaps/$level/libaeadkit.so"*
+    done
     for kind in $builds; do
-        copied "$kind"
-        words='' static=$prefix/lib shared=$prefix/lib
-        # For AArch64 there is no second build: that for neoverse-v2 takes more instructions for AES, and no loader would choose it.
+        compiled "$kind"
         case $kind in
-        avx2) words=--cpu=x86-64-v3 static=$prefix/lib/x86-64-v3 shared=$prefix/lib/glibc-hwcaps/x86-64-v3 ;;
-        aarch64) words='--target aarch64-unknown-linux-gnu' ;;
+        avx2) static=$prefix/lib/x86-64-v3 shared=$prefix/lib/glibc-hwcaps/x86-64-v3 ;;
+        avx512) static=$prefix/lib/x86-64-v4 shared=$prefix/lib/glibc-hwcaps/x86-64-v4 ;;
+        *) static=$prefix/lib shared=$prefix/lib ;;
         esac
-        # shellcheck disable=SC2086
-        proved capi lib $words
-        [ "$kind" != aarch64 ] || tools_of_kit
-        linked "$room/crates/capi/out/libcapi.a" "$static" "$shared"
+        linked "$objects" "$static" "$shared"
     done
 }
 
@@ -200,10 +270,18 @@ program() {
     kind=default cpu=''
     ! LC_ALL=C /lib64/ld-linux-x86-64.so.2 --help 2>&1 | grep -q '^ *x86-64-v3 (supported' || kind=avx2
     kind=${PROGRAM:-$kind}
+    mkdir -p "$prefix/bin"
+    if [ "$from" = rust ]; then
+        needs_rust
+        [ "$kind" = default ] || cpu='-C target-cpu=x86-64-v3'
+        RUSTFLAGS=$cpu CARGO_TARGET_DIR=$build/cargo/program "${CARGO:-cargo}" build --quiet --release --locked \
+            --manifest-path "$top/packages/rust/program/Cargo.toml" || fail "cargo does not compile packages/rust/program"
+        install "$build/cargo/program/release/aeadkit" "$prefix/bin/aeadkit"
+        return
+    fi
     [ "$kind" = default ] || cpu=--cpu=x86-64-v3
     copied "$kind"
     proved aeadkit run $cpu -- --version
-    mkdir -p "$prefix/bin"
     install "$room/crates/aeadkit/out/aeadkit" "$prefix/bin/aeadkit"
 }
 
@@ -223,6 +301,7 @@ javascript() {
 # compiled a lane at a time, and AES-GCM is 10 times slower. And look-ups become instructions: the kit writes them as loads from
 # addresses that depend on secrets.
 wasm() {
+    [ "$from" = kit ] || fail "the module for JavaScript is built by the kit alone: leave FROM=$from out"
     needs_rt
     needs wasm-dis:binaryen wasm-as:binaryen
     copied wasm
@@ -252,23 +331,11 @@ END
     javascript "$room/crates/capi/out/capi.wasm"
 }
 
-# The stand-in: the calls of the header in plain C, slow and unproved, for tests of the packages without the toolchain.
-standin() {
-    needs cc:gcc ld:binutils ar:binutils objcopy:binutils
-    interface
-    cc -O1 -fPIC -I"$prefix/include" -c "$top/packages/standin/standin.c" -o "$build/standin.o"
-    ar rcs "$build/standin.a" "$build/standin.o"
-    linked "$build/standin.a" "$prefix/lib" "$prefix/lib"
-}
-
-standin_wasm() {
-    needs clang:clang wasm-ld:lld wasm-dis:binaryen wasm-as:binaryen python3:python3
-    interface
-    clang --target=wasm64 -O2 -ffreestanding -DFREESTANDING -I"$prefix/include" -c "$top/packages/standin/standin.c" \
-        -o "$build/standin.o"
-    wasm-ld -mwasm64 --no-entry --stack-first -z stack-size=1048576 --export-dynamic --export=__heap_base "$build/standin.o" \
-        -o "$build/standin.wasm"
-    javascript "$build/standin.wasm"
+# Copies what the library is compiled of by this script with FROM=rust, without a repository: sources FOLDER
+sources() {
+    mkdir -p "$1"
+    tar -C "$top" -c tools/build/lib.sh crates/command/src/version.rt packages/c/aeadkit.pc packages/c/cmake packages/c/exports.map \
+        packages/c/include packages/c/src packages/c/rust packages/rust/Cargo.toml packages/rust/src | tar -C "$1" -x
 }
 
 # Builds the wheel over the prefix, for the processor of its archive: wheel FOLDER
@@ -294,21 +361,45 @@ wheel() (
     ! readelf -VW build/lib*/aeadkit/*.so | grep -E 'GLIBC_2\.(1[89]|[2-9][0-9])' >&2
 )
 
-# Packs a tarball for C and a wheel for each processor, the crate and the npm package into BUILD/dist, with their sums. The same
-# commit gives the same bytes in any folder: what is packed has the time of the commit, one owner and one order.
+# Packs a folder into a tarball, with the time of the commit, one owner and one order: packed FOLDER FILE
+packed() {
+    tar -C "$(dirname "$1")" --sort=name --mtime="@$SOURCE_DATE_EPOCH" --owner=0 --group=0 --numeric-owner --mode=u=rwX,go=rX --format=gnu -c \
+        "${1##*/}" | gzip -9n > "$2"
+}
+
+# Packs the source distribution of the Python package, with the sources that cargo compiles when it is installed: source_distribution FOLDER
+source_distribution() (
+    room=$build/python-source
+    rm -rf "$room"
+    cp -R "$top/packages/python" "$room"
+    rm -rf "$room/build"
+    sources "$room/library"
+    umask 022
+    cd "$room"
+    env -u AEADKIT_PREFIX "${PYTHON:-python3}" setup.py -q sdist -d packed > log 2>&1 || {
+        tail -n 20 log >&2
+        exit 1
+    }
+    tar -xzf "packed/aeadkit-$version.tar.gz"
+    packed "$room/aeadkit-$version" "$1/aeadkit-$version.tar.gz"
+)
+
+# Packs a tarball for C and a wheel for each processor, the crate, the source distribution for Python and, if the kit is asked for, the npm
+# package into BUILD/dist, with their sums. The same commit gives the same bytes in any folder.
 dist() {
-    needs tar:tar gzip:gzip aarch64-linux-gnu-gcc:gcc-aarch64-linux-gnu cargo:cargo npm:npm wasm-dis:binaryen wasm-as:binaryen
+    needs tar:tar gzip:gzip aarch64-linux-gnu-gcc:gcc-aarch64-linux-gnu
+    needs_rust
+    [ "$from" = rust ] || needs npm:npm wasm-dis:binaryen wasm-as:binaryen
     "${PYTHON:-python3}" -c 'import setuptools, wheel' 2> /dev/null ||
         fail "${PYTHON:-python3} has no setuptools and wheel: install python3-setuptools, python3-wheel and python3-dev, or set PYTHON"
     SOURCE_DATE_EPOCH=${SOURCE_DATE_EPOCH:-$(git -C "$top" log -1 --format=%ct 2> /dev/null || true)}
     [ -n "$SOURCE_DATE_EPOCH" ] || fail "there is no commit whose time the packages could have: set SOURCE_DATE_EPOCH to a number of seconds"
     export SOURCE_DATE_EPOCH LC_ALL=C
     umask 022
-    out=$build/dist package=$build/aeadkit-$version builds_here=${BUILDS:-default avx2}
+    out=$build/dist builds_here=${BUILDS:-default avx2}
     case $builds_here in *aarch64*) fail "BUILDS=\"$builds_here\": dist makes the packages for AArch64 in any case, so name those for x86-64" ;; esac
-    rm -rf "$out" "$package"
+    rm -rf "$out"
     mkdir -p "$out"
-    cp -R "$top/packages/rust" "$package"
     for processor in x86_64 aarch64; do
         prefix=$build/aeadkit-$version-$processor-linux BUILDS=$builds_here
         [ $processor = x86_64 ] || BUILDS=aarch64
@@ -316,17 +407,19 @@ dist() {
         mkdir "$prefix"
         library
         cp "$top/packages/c/README.md" "$prefix/"
-        tar -C "$build" --sort=name --mtime="@$SOURCE_DATE_EPOCH" --owner=0 --group=0 --numeric-owner --mode=u=rwX,go=rX --format=gnu -c \
-            "${prefix##*/}" | gzip -9n > "$out/${prefix##*/}.tar.gz"
-        for archive in libaeadkit.a x86-64-v3/libaeadkit.a; do
-            [ ! -e "$prefix/lib/$archive" ] || install -D -m 644 "$prefix/lib/$archive" "$package/lib/$processor/$archive"
-        done
+        packed "$prefix" "$out/${prefix##*/}.tar.gz"
         wheel "$out"
     done
-    (cd "$package" && CARGO_TARGET_DIR="$build/cargo" cargo package --quiet --offline --no-verify --allow-dirty)
+    source_distribution "$out"
+    (cd "$top/packages/rust" && CARGO_TARGET_DIR="$build/cargo" "${CARGO:-cargo}" package --quiet --offline --no-verify --allow-dirty)
     cp "$build/cargo/package/aeadkit-$version.crate" "$out/"
-    wasm
-    (cd "$out" && npm pack --silent "$prefix/share/aeadkit/javascript" && sha256sum -- * > ../SHA256SUMS && mv ../SHA256SUMS .)
+    if [ "$from" = kit ]; then
+        wasm
+        (cd "$out" && npm pack --silent "$prefix/share/aeadkit/javascript")
+    else
+        echo "left out: the npm package, whose module the kit alone builds"
+    fi
+    (cd "$out" && sha256sum -- * > ../SHA256SUMS && mv ../SHA256SUMS .)
 }
 
 # Compares two folders that dist made, perhaps in different places and at different times: same FOLDER FOLDER
@@ -343,9 +436,9 @@ same() {
 again() {
     build=$build/another/folder
     mkdir -p "$build"
-    copied default
-    proved capi lib
-    linked "$room/crates/capi/out/libcapi.a" "$build/lib" "$build/lib"
+    [ "$from" = kit ] || { sources "$build" && top=$build; }
+    compiled default
+    linked "$objects" "$build/lib" "$build/lib"
     for file in libaeadkit.a libaeadkit.so; do
         cmp "$build/lib/$file" "$prefix/lib/$file" || fail "$file is not the same if it is built in another folder"
     done
@@ -353,61 +446,75 @@ again() {
     echo "ok: the library is the same, byte for byte, if it is built in another folder"
 }
 
-# Builds the libraries in this prefix by Rattle's own compiler too, and compares them with LLVM's: each vector file over both, and the
-# results of 20,000 random cases. The tests that look at a struct's padding and at the stack are for LLVM's code alone.
+# Runs each vector file and the test of overlaps over an archive, and compares the results of 20,000 random cases with those of the first
+# archive: compared NAME ARCHIVE
+compared() {
+    compile="cc -std=c11 -O2 -pthread -I$prefix/include"
+    for test in packages/c/tests/vectors packages/c/tests/overlap tools/build/results; do
+        $compile "$top/$test.c" "$2" -o "$out/${test##*/}"
+    done
+    for file in "$top"/docs/*.vectors; do
+        "$out/vectors" "$file" > "$out/log" || fail "$1: ${file##*/} fails: $(cat "$out/log")"
+    done
+    "$out/overlap" > "$out/log" || fail "$1: overlap.c fails: $(cat "$out/log")"
+    "$out/results" 20000 > "$out/now" || fail "$1: the random cases fail: $(tail -n 1 "$out/now")"
+    [ -e "$out/first" ] || cp "$out/now" "$out/first"
+    diff "$out/first" "$out/now" || fail "$1: these results differ from those of the first build"
+    echo "ok: $1: $(sha256sum < "$out/now" | cut -c 1-16)"
+}
+
+# Compares what the compilers build, for each processor that this machine runs: LLVM and Rattle's own compiler in the kit, unless cargo
+# alone is asked for, and rustc; and by rustc also without any flag, with the vectors of no processor, and with tests for overflow and
+# the assertions for debugging, which end the program. The tests that look at the stack are for LLVM's code alone.
 compilers() {
-    needs_rt
+    needs_rust
     needs cc:gcc ld:binutils ar:binutils objcopy:binutils
-    out=$build/compilers compiled="cc -std=c11 -O2 -pthread -I$prefix/include"
+    out=$build/compilers kinds=default
+    ! grep -qw avx2 /proc/cpuinfo || kinds="$kinds avx2"
+    rm -rf "$out"
     mkdir -p "$out"
-    for kind in default avx2; do
+    for kind in $([ "$from" = rust ] || echo "$kinds"); do
         library=$prefix/lib/libaeadkit.a words=''
-        [ $kind = default ] || library=$prefix/lib/x86-64-v3/libaeadkit.a words=--cpu=x86-64-v3
-        [ $kind = default ] || { [ -e "$library" ] && grep -qw avx2 /proc/cpuinfo; } || continue
-        copied $kind
+        [ "$kind" = default ] || library=$prefix/lib/x86-64-v3/libaeadkit.a words=--cpu=x86-64-v3
+        [ -e "$library" ] || continue
+        compared "LLVM, $kind" "$library"
+        copied "$kind"
         # shellcheck disable=SC2086
         proved capi lib --backend rattle $words
         mv "$room/crates/capi/out/libcapi.a" "$out/second"
         linked "$out/second" "$out" "$out"
-        for built in "$library" "$out/libaeadkit.a"; do
-            for test in vectors overlap; do
-                $compiled "$top/packages/c/tests/$test.c" "$built" -o "$out/$test"
-            done
-            $compiled "$top/tools/build/results.c" "$built" -o "$out/results"
-            for file in "$top"/docs/*.vectors; do
-                "$out/vectors" "$file" > "$out/log" || fail "${file##*/} fails over $built: $(cat "$out/log")"
-            done
-            "$out/overlap" > "$out/log" || fail "overlap.c fails over $built: $(cat "$out/log")"
-            "$out/results" 20000 > "$out/results.now" || fail "the random cases fail over $built"
-            [ "$built" = "$library" ] || diff "$out/results.llvm" "$out/results.now" || fail "the two compilers differ"
-            mv "$out/results.now" "$out/results.llvm"
-        done
-        echo "ok: $kind: what LLVM and Rattle's own compiler build gives the same results." \
-            "By the second's own count a call takes at most $(sed -n 's/^built: .* stack-bytes=\([0-9]*\).*/\1/p' "$room/capi.log") bytes of stack"
+        compared "Rattle's own compiler, $kind, at most $(sed -n 's/^built: .* stack-bytes=\([0-9]*\).*/\1/p' "$room/capi.log") bytes of stack" \
+            "$out/libaeadkit.a"
+    done
+    from=rust
+    ! grep -qw avx512vl /proc/cpuinfo || kinds="$kinds avx512"
+    for kind in $kinds any portable checked; do
+        case $kind in
+        any) by_cargo any ;;
+        portable) by_cargo portable --cfg aeadkit_portable ;;
+        checked) by_cargo checked -C overflow-checks=on -C debug-assertions=on -C opt-level=1 ;;
+        *) compiled "$kind" ;;
+        esac
+        linked "$objects" "$out" "$out"
+        compared "rustc, $kind" "$out/libaeadkit.a"
     done
 }
 
-command=$1
+command=${1:-}
 prefix=${2:-}
+case $from in
+kit | rust) ;;
+*) fail "FROM=\"$from\": the library is compiled by the kit, which proves it (FROM=kit), or by cargo (FROM=rust)" ;;
+esac
 case $command in
-library | program | wasm | standin | standin-wasm | ready | native | again | compilers)
+library | program | wasm | ready | native | again | compilers)
     [ -n "$prefix" ] || fail "give a PREFIX"
     mkdir -p "$prefix"
     prefix=$(cd "$prefix" && pwd) ;;
 esac
 mkdir -p "$build"
 case $command in
-library) library ;;
-program) program ;;
-wasm) wasm ;;
-standin) standin ;;
-standin-wasm) standin_wasm ;;
-ready) ready ;;
-native) native ;;
-dist) dist ;;
-missing) missing ;;
-again) again ;;
-compilers) compilers ;;
+library | program | wasm | ready | native | dist | missing | again | compilers) $command ;;
 same) same "$2" "$3" ;;
-*) sed -n '2,5s/^# //p' "$0" >&2; exit 2 ;;
+*) sed -n '2,7s/^# //p' "$0" >&2; exit 2 ;;
 esac

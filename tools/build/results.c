@@ -1,13 +1,13 @@
-/* Prints what the library in front of it gives for random calls: results CASES
-   Two libraries agree if they print the same. A line for every 1,000 cases has a sum over each status, each output and each
-   struct at its end; the last lines count the statuses of each call. It fails if a status of the header never came. */
+/* Prints what the library in front of it gives for each length of text and for random calls: results CASES
+   Two libraries agree if they print the same. A line for each suite, and for every 1,000 cases, has a sum over each status, each
+   output and each struct at its end; the last lines count the statuses of each call. It fails if a status of the header never came. */
 #include "aeadkit.h"
 
 #include <stdio.h>
 #include <stdlib.h>
 #include <string.h>
 
-enum { LONGEST = 9000, ROOM = LONGEST + 64, CALLS = 29 };
+enum { LONGEST = 9000, EACH = 4200, ROOM = LONGEST + 64, CALLS = 29 };
 static uint64_t state = 88172645463325252u, sum = 14695981039346656037u;
 static uint8_t text[ROOM], sealed[ROOM], out[ROOM], key[40], nonce[16], aad[300], tag[16];
 /* Past the limit of every suite's texts; no compiler knows it. */
@@ -39,6 +39,13 @@ static void add(const void *bytes, size_t length) {
 static void add_struct(const void *bytes, size_t length) {
     add(bytes, 52);
     add((const uint8_t *)bytes + 56, length - 56);
+}
+
+/* Any bytes are a struct in pieces: now and then some of them, or all behind the mark, become others. */
+static void disturb(void *bytes, size_t length) {
+    if (!rarely(12)) return;
+    if (rarely(3)) random_bytes((uint8_t *)bytes + 8, length - 8);
+    else for (size_t left = 1 + below(3); left > 0; left--) random_bytes((uint8_t *)bytes + below(length), 1);
 }
 
 static uint32_t noted(const char *name, uint32_t status) {
@@ -124,6 +131,7 @@ static void sealed_in_pieces(void) {
     if (rarely(40) ? siv_suite : !siv_suite) {
         if (with) CALL(sealer_init_with, &sealer, KEPT, aad, m.aad_length);
         else CALL(sealer_init, &sealer, SUITE, aad, m.aad_length);
+        disturb(&sealer, sizeof sealer);
         PIECES(CALL(sealer_update, &sealer, out + at, next))
         if (rarely(9)) CALL(sealer_update, &sealer, out, vast);
         if (rarely(9)) aeadkit_sealer_wipe(&sealer);
@@ -133,9 +141,11 @@ static void sealed_in_pieces(void) {
     } else {
         if (with) CALL(siv_init_with, &siv, KEPT, aad, m.aad_length);
         else CALL(siv_init, &siv, SUITE, aad, m.aad_length);
+        disturb(&siv, sizeof siv);
         PIECES(CALL(siv_absorb, &siv, out + at, next))
         if (rarely(9)) CALL(siv_absorb, &siv, out, vast);
         if (!rarely(20)) CALL(siv_begin_second, &siv, tag);
+        disturb(&siv, sizeof siv);
         if (rarely(9)) out[below(n + 1)] ^= 1;
         PIECES(CALL(siv_update, &siv, out + at, next))
         if (rarely(9)) CALL(siv_update, &siv, out, 1);
@@ -155,9 +165,11 @@ static void opened_in_pieces(void) {
     if (rarely(6)) tag[below(16)] ^= (uint8_t)(1 << below(8));
     if (rarely(2)) CALL(opener_init_with, &opener, KEPT, aad, m.aad_length, tag);
     else CALL(opener_init, &opener, SUITE, aad, m.aad_length, tag);
+    disturb(&opener, sizeof opener);
     PIECES(CALL(opener_check, &opener, out + at, next))
     if (rarely(9)) CALL(opener_check, &opener, out, vast);
     if (!rarely(20)) CALL(opener_begin_second, &opener);
+    disturb(&opener, sizeof opener);
     if (rarely(9)) out[below(n + 1)] ^= 1;
     PIECES(CALL(opener_update, &opener, out + at, next))
     if (rarely(9)) CALL(opener_update, &opener, out, 1);
@@ -188,8 +200,29 @@ static void wrapped(void) {
     add(out, ROOM);
 }
 
+/* Each length of text to EACH, sealed and opened under each suite. */
+static void each_length(void) {
+    random_bytes(key, sizeof key);
+    random_bytes(nonce, sizeof nonce);
+    random_bytes(aad, sizeof aad);
+    m.nonce_length = 12;
+    for (m.suite = 1; m.suite <= 6; m.suite++) {
+        CALL(key_init, &kept, m.suite, key, aeadkit_key_length(m.suite));
+        for (size_t n = 0; n <= EACH; n++) {
+            random_bytes(text, n);
+            CALL(seal_with, KEPT, text, n, aad, n % 40, sealed, n + 16);
+            memcpy(out, sealed, n + 16);
+            CALL(open_in_place_with, KEPT, out, n, aad, n % 40, out + n);
+            add(sealed, n + 16);
+            add(out, n);
+        }
+        printf("suite %u %016llx\n", m.suite, (unsigned long long)sum);
+    }
+}
+
 int main(int count, char **words) {
     long cases = count == 2 ? atol(words[1]) : 0;
+    each_length();
     for (long number = 1; number <= cases; number++) {
         m.suite = rarely(40) ? (uint32_t)below(9) * 77 : 1 + (uint32_t)below(6);
         m.key_length = m.suite == 2 || m.suite == 5 ? 16 : m.suite == 3 ? 24 : 32;

@@ -24,7 +24,7 @@ symbols() {
     readelf --dyn-syms -W "$1" | awk "\$5 == \"GLOBAL\" && \$7 $2 \"UND\" { print \$8 }" | sort
 }
 sed "s/\$/@@$node/" "$out/exports" > "$out/versioned"
-for library in "$prefix/lib/libaeadkit.so" "$prefix/lib/glibc-hwcaps/x86-64-v3/libaeadkit.so"; do
+for library in "$prefix/lib/libaeadkit.so" "$prefix"/lib/glibc-hwcaps/*/libaeadkit.so; do
     [ -e "$library" ] || continue
     symbols "$library" != | grep -v "^$node" > "$out/names"
     same "$out/versioned" "$out/names" "$library"
@@ -35,7 +35,7 @@ done
 
 # The archive has these names and that of the version, and hides them from whoever does not link it.
 { cat "$out/exports"; echo "$node"; } | sort | sed 's/$/ HIDDEN/' > "$out/hidden"
-for archive in "$prefix/lib/libaeadkit.a" "$prefix/lib/x86-64-v3/libaeadkit.a"; do
+for archive in "$prefix/lib/libaeadkit.a" "$prefix"/lib/x86-64-*/libaeadkit.a; do
     [ -e "$archive" ] || continue
     readelf -sW "$archive" | awk '($5 == "GLOBAL" || $5 == "WEAK") && $7 != "UND" { print $8, $6 }' | sort > "$out/names"
     same "$out/hidden" "$out/names" "$archive"

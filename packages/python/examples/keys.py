@@ -31,18 +31,25 @@ def seal(wrapping_keys: Dict[int, bytes], name: str, texts: List[bytes]) -> Batc
                                        for number, text in enumerate(texts)])
 
 
+def data_key_of(wrapping_keys: Dict[int, bytes], batch: Batch) -> bytes:
+    """The data key. Raises InvalidUnwrap if it or the number of its wrapping key was changed."""
+    if batch.wrapping_key not in wrapping_keys:
+        raise InvalidUnwrap(f"there is no wrapping key {batch.wrapping_key}")
+    return aes_key_unwrap(wrapping_keys[batch.wrapping_key], batch.wrapped)
+
+
 def open_batch(wrapping_keys: Dict[int, bytes], batch: Batch) -> List[bytes]:
     """The texts. Raises InvalidUnwrap or InvalidTag if anything was changed."""
     if not batch.records:
         raise InvalidTag("a batch without records has no tag: all of them may have been left out")
-    with Key(Suite.CHACHA20_POLY1305, aes_key_unwrap(wrapping_keys[batch.wrapping_key], batch.wrapped)) as key:
+    with Key(Suite.CHACHA20_POLY1305, data_key_of(wrapping_keys, batch)) as key:
         return [key.open(number.to_bytes(12, "big"), sealed, aad=batch.label(number))
                 for number, sealed in enumerate(batch.records)]
 
 
 def rewrap(wrapping_keys: Dict[int, bytes], batch: Batch) -> Batch:
     """The batch with its data key under the newest wrapping key, and the records as they are."""
-    data_key, newest = aes_key_unwrap(wrapping_keys[batch.wrapping_key], batch.wrapped), max(wrapping_keys)
+    data_key, newest = data_key_of(wrapping_keys, batch), max(wrapping_keys)
     return batch._replace(wrapping_key=newest, wrapped=aes_key_wrap(wrapping_keys[newest], data_key))
 
 
@@ -54,7 +61,8 @@ def main() -> None:
     del wrapping_keys[1]
     print(open_batch(wrapping_keys, batch))
     for changed in (batch._replace(records=batch.records[::-1]), batch._replace(records=batch.records[:-1]),
-                    batch._replace(name="bills"), batch._replace(wrapped=bytes(40)), batch._replace(records=[])):
+                    batch._replace(name="bills"), batch._replace(wrapped=bytes(40)), batch._replace(wrapping_key=7),
+                    batch._replace(records=[])):
         try:
             open_batch(wrapping_keys, changed)
         except (InvalidTag, InvalidUnwrap) as fault:

@@ -64,8 +64,11 @@ def main() -> None:
         wrapping_key = file.read()
     if len(wrapping_key) != KEY:
         sys.exit("segments.py: KEYFILE is not 32 bytes long")
+    label = os.fsencode(sys.argv[3])
+    if len(label) > 200:
+        sys.exit("segments.py: LABEL is longer than 200 bytes")
     try:
-        calls[sys.argv[1]](wrapping_key, os.fsencode(sys.argv[3]), sys.stdin.buffer, sys.stdout.buffer)
+        calls[sys.argv[1]](wrapping_key, label, sys.stdin.buffer, sys.stdout.buffer)
         sys.stdout.buffer.flush()
     except (InvalidTag, InvalidUnwrap, OSError) as fault:
         sys.exit(f"segments.py: {fault}")

@@ -43,7 +43,7 @@ class Documents(unittest.TestCase):
 
     def test_keys(self):
         made = run(FOLDER / "examples/keys.py")
-        self.assertEqual((made.stdout.count(b"refused: "), made.stderr, made.returncode), (5, b"", 0))
+        self.assertEqual((made.stdout.count(b"refused: "), made.stderr, made.returncode), (6, b"", 0))
 
     def test_segments(self):
         with tempfile.TemporaryDirectory() as folder:
@@ -68,6 +68,7 @@ class Documents(unittest.TestCase):
             sample = FOLDER.parent / "c/examples/sample.segments"  # which backup.c opens too
             key.write_bytes(b"a key of 32 bytes for the sample")
             self.assertEqual(segments("open", sample.read_bytes(), "sample").stdout[:21], b"The parcel leaves at ")
+            self.assertIn(b"LABEL is longer than 200 bytes", segments("seal", b"text", "l" * 201).stderr)
             key.write_bytes(bytes(16))
             self.assertIn(b"KEYFILE is not 32 bytes long", segments("seal", b"text").stderr)
 
