@@ -32,7 +32,7 @@ def words(text):
     return re.findall(r"`([^`]+)`", text)
 
 
-# ---- Quotations: a block in a fence, or indented by 4, under a line that ends in "From `PATH`:".
+# ---- Quotations: a block in a fence, or indented by 4, under a line that ends in "From `PATH`:", or is the comment <!-- from PATH -->.
 
 
 def quotations():
@@ -42,11 +42,11 @@ def quotations():
         if path.endswith(".rt"):
             texts = [text[3:].removeprefix(" ") if text.startswith("//!") else None for text in texts]
         for at, text in enumerate(texts):
-            named = text and re.search(r"From `([^`]+)`:$", text.rstrip())
+            named = text and re.search(r"From `([^`]+)`:$|^<!-- from (\S+) -->$", text.rstrip())
             if named:
                 count += 1
                 rest = [text.rstrip() for text in itertools.takewhile(lambda text: text is not None, texts[at + 1 :])]
-                compare(f"{path}:{at + 1}", named[1], list(itertools.dropwhile(lambda text: not text, rest)))
+                compare(f"{path}:{at + 1}", named[1] or named[2], list(itertools.dropwhile(lambda text: not text, rest)))
     return f"{count} quotations"
 
 

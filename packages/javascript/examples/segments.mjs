@@ -85,6 +85,7 @@ if (process.argv[1] === fileURLToPath(import.meta.url)) {
         assert(call, "usage: segments.mjs seal|open KEYFILE LABEL < IN > OUT");
         const wrappingKey = await readFile(keyFile);
         assert(wrappingKey.length === 32, "KEYFILE is not 32 bytes long");
+        assert(Buffer.byteLength(label) <= 200, "LABEL is longer than 200 bytes");
         await pipeline(process.stdin, (source) => call(wrappingKey, Buffer.from(label), source), process.stdout);
     } catch (error) {
         console.error(`segments.mjs: ${error.message}`);

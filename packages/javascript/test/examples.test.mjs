@@ -45,6 +45,7 @@ test("segments: from pipe to pipe, and what is refused", () => {
     const first = 48 + 2 ** 20 + 16;
     const wrong = [sealed.subarray(0, first), sealed.subarray(0, -1), joined([sealed, sealed]), new Uint8Array(0)];
     wrong.push(joined([sealed.subarray(0, 48), sealed.subarray(first)]), ...[0, 5, 9, 99, first].map((at) => changed(sealed, at)));
+    assert.match(`${does("seal", texts[1], "l".repeat(201)).stderr}`, /LABEL is longer than 200 bytes/);
     for (const { status, stdout, stderr } of [does("open", sealed, "other"), ...wrong.map((data) => does("open", data))]) {
         assert.deepEqual(stdout, texts[3].subarray(0, stdout.length));
         assert.deepEqual([status, stdout.length < texts[3].length, `${stderr}`.slice(0, 14)], [1, true, "segments.mjs: "]);

@@ -1,5 +1,6 @@
 // What depends on the host: memory, realms, the stack, and modules of another version.
 import assert from "node:assert/strict";
+import { createRequire } from "node:module";
 import { test } from "node:test";
 import { runInNewContext } from "node:vm";
 import { Suite, TagMismatch, load } from "../aeadkit.mjs";
@@ -47,6 +48,10 @@ test("a call leaves zeros in the module's memory, whether it succeeds or is refu
     assert(isClean());
     assert.equal(instances.length, 1);
 }));
+
+test("a CommonJS module gets the same classes by require", { skip: !process.features.require_module }, () => {
+    assert.equal(createRequire(import.meta.url)("../node.mjs").TagMismatch, TagMismatch);
+});
 
 test("an array of another realm is a Uint8Array too", () => {
     const foreign = (bytes) => runInNewContext("Uint8Array.from(bytes)", { bytes });
