@@ -11,10 +11,13 @@ use crate::polynomial_word::{block_of, word_of};
 use crate::tables::PlainMultiples;
 use crate::wide_mul::times_many;
 use crate::{Keyed128, Multiply};
-use octets::{Block, WIDE, be_bytes};
+use octets::{Block, be_bytes, wide};
 
 // From this many blocks on, it is faster to make the multiples of three more powers of the key and take four blocks at a time.
-const MANY: usize = if WIDE { 16 } else { 44 };
+#[inline(always)]
+fn many() -> usize {
+    if wide() { 16 } else { 44 }
+}
 
 /// The multiplier that holds 32 multiples of the key, half a KiB: the first choice, whatever the length of the text. For a run
 /// of many blocks it makes the multiples of three more powers of the key, and takes four blocks at a time.
@@ -115,7 +118,7 @@ impl Multiply for TableMul {
 
     #[inline(always)]
     fn times_all<O: HashOrder>(&self, sum: u128, blocks: &[[u8; 16]]) -> u128 {
-        if blocks.len() < MANY {
+        if blocks.len() < many() {
             times_few::<O>(&self.multiples, sum, blocks)
         } else {
             times_many::<O>(self.word, &self.multiples, sum, blocks)
@@ -173,7 +176,7 @@ impl<'a> Multiply for PlainMul<'a> {
 
     #[inline(always)]
     fn times_all<O: HashOrder>(&self, sum: u128, blocks: &[[u8; 16]]) -> u128 {
-        if blocks.len() < MANY {
+        if blocks.len() < many() {
             times_few::<O>(self.numbers, sum, blocks)
         } else {
             times_many::<O>(self.word, self.numbers, sum, blocks)

@@ -16,7 +16,7 @@ use crate::table_mul::{TableMul, times_few};
 use crate::tables::PlainMultiples;
 use crate::word_bytes::WordBytes;
 use crate::{Keyed128, Multiply};
-use octets::{Block, WIDE};
+use octets::{Block, wide};
 
 // From this many runs of four blocks on, it is faster to copy the tables for vectors of 32 bytes.
 const PAIRS_PAY: usize = 3;
@@ -197,7 +197,7 @@ impl WideMul {
         ensures { (blocks : List (List ℕ)) → AreFours fours.now blocks → Agree (of_word result)
             (sum_after O.order (to_be_bytes w128 self.now.first.word) (of_word sum) blocks (length fours.now * 4)) }
     {
-        if WIDE && fours.len() >= PAIRS_PAY {
+        if wide() && fours.len() >= PAIRS_PAY {
             self.times_fours_by_pairs::<O>(sum, fours)
         } else {
             self.times_fours::<O>(sum, fours)
