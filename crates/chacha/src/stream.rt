@@ -86,6 +86,9 @@ impl ChaStream {
         ensures begun { take begun bytes.new ≡ take begun bytes.old }
         ensures hashed { (k m : List ℕ) → W.comes_to hash.old [] k m
             → W.comes_to hash.new [] k (m ++ whole_blocks bytes.new) }
+        ensures refused { (key nonce : List ℕ) (first made : ℕ) → Holds self.old key nonce first made
+            → 2 ^ 38 < first * 64 + made + (length bytes.old - begun)
+            → (self.new ≡ self.old) × (bytes.new ≡ bytes.old) }
     {
         if (bytes.len() - begun) as u64 > END - self.offset {
             hash.take_all(&bytes[..bytes.len() / 16 * 16]);
@@ -102,6 +105,8 @@ impl ChaStream {
         ensures did { Did self.old self.new bytes.old bytes.new }
         ensures hashed { (k m : List ℕ) → W.comes_to hash.old [] k m
             → W.comes_to hash.new [] k (m ++ whole_blocks bytes.old) }
+        ensures refused { (key nonce : List ℕ) (first made : ℕ) → Holds self.old key nonce first made
+            → 2 ^ 38 < first * 64 + made + length bytes.old → (self.new ≡ self.old) × (bytes.new ≡ bytes.old) }
     {
         if self.offset + bytes.len() as u64 > END {
             hash.take_all(&bytes[..bytes.len() / 16 * 16]);
@@ -118,7 +123,11 @@ impl Stream for ChaStream {
     ghost did = { Did };
 
     fn apply_next(&mut self, bytes: &mut [u8]) {
-        let _ = self.apply(bytes);
+        // Within the limits of the suites the key stream does not end. No text leaves unmasked if it does.
+        match self.apply(bytes) {
+            Ok(()) => {}
+            Err(_) => bytes.fill(0),
+        }
     }
 }
 
