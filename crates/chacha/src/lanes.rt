@@ -13,7 +13,7 @@ ghost use Rattle.chacha.specs.Code.Halves.{half_quarter, half_columns, half_diag
 ghost use Rattle.chacha.specs.Stream.{key_stream_byte};
 
 use crate::state::initial_state;
-use octets::{Key32, Nonce, WIDE, Work, xor_into};
+use octets::{Key32, Nonce, Work, wide, xor_into};
 use std::simd::{Simd, u8x32, u32x4, u32x8};
 
 // The sums of the words, lane by lane.
@@ -101,7 +101,10 @@ pub(crate) fn half_diagonals<const N: usize>(x: &mut [Simd<u32, N>; 16], n: u32,
 // After the second half of a round a step of other work is done only if more steps than this are left. A run of four blocks has
 // 40 places for a step, and about 16 steps to do. If the first places took them all, they would fill the processor there and
 // leave it idle at the others. A run of eight blocks has 32 steps to do, and needs no reserve.
-pub(crate) const RESERVE: usize = if WIDE { 0 } else { 20 };
+#[inline(always)]
+pub(crate) fn reserve() -> usize {
+    if wide() { 0 } else { 20 }
+}
 
 // Ten double rounds in halves of rounds, with a step of other work after each half. The steps are done on a copy, which stays in
 // registers where a reference would not. A step is a branch, and so it keeps the halves of a round apart: in one basic block
@@ -116,11 +119,11 @@ fn ten_rounds<const N: usize, W: Work>(x: &mut [Simd<u32, N>; 16], work: &mut W)
         half_columns(x, 16, 12);
         own.step(0);
         half_columns(x, 8, 7);
-        own.step(RESERVE);
+        own.step(reserve());
         half_diagonals(x, 16, 12);
         own.step(0);
         half_diagonals(x, 8, 7);
-        own.step(RESERVE);
+        own.step(reserve());
     }
     *work = own;
 }

@@ -3,11 +3,14 @@
 
 ghost use Rattle.std.specs.Prelude.{◌≡◌, ◌≤◌, true};
 
-use octets::WIDE;
+use octets::wide;
 
 // The length in bytes of a run, whose blocks are computed side by side and interleaved with other work: eight blocks if they fit
 // into the registers, else four. With AVX2, eight in place of four are 1.5 times as fast.
-const RUN: usize = if WIDE { 512 } else { 256 };
+#[inline(always)]
+fn run() -> usize {
+    if wide() { 512 } else { 256 }
+}
 
 /// Returns whether bytes begin with a run, in a build where a run is eight blocks. `skip` is their offset in the first block: a
 /// run begins with its first byte.
@@ -15,7 +18,7 @@ const RUN: usize = if WIDE { 512 } else { 256 };
 pub(crate) fn has_run_of_eight(skip: usize, length: usize) -> bool
     ensures { result ≡ true → (skip ≡ 0) × (512 ≤ length) }
 {
-    WIDE && skip == 0 && length >= 512
+    wide() && skip == 0 && length >= 512
 }
 
 /// Returns whether bytes begin with a run, in a build where a run is four blocks.
@@ -23,12 +26,15 @@ pub(crate) fn has_run_of_eight(skip: usize, length: usize) -> bool
 pub(crate) fn has_run_of_four(skip: usize, length: usize) -> bool
     ensures { result ≡ true → (skip ≡ 0) × (256 ≤ length) }
 {
-    !WIDE && skip == 0 && length >= 256
+    !wide() && skip == 0 && length >= 256
 }
 
 /// More key stream in bytes than this, one block, is made two blocks at once by rows: 390 cycles in place of twice 295. With AVX2 two
 /// blocks, 310 cycles, take hardly longer than one, 280, so two are always made.
-pub(crate) const ONE_AT_MOST: usize = if WIDE { 0 } else { 64 };
+#[inline(always)]
+pub(crate) fn one_at_most() -> usize {
+    if wide() { 0 } else { 64 }
+}
 
 /// The length in bytes of two blocks. More key stream than this is made three blocks at once by rows, in 490 cycles, with AVX2 four in
 /// two pairs, in 410.
@@ -71,7 +77,7 @@ impl BlocksAtOnce {
     /// counter 0 is not for the text, and the others mask what runs of eight, or without AVX2 of four, do not fill. With AVX2, six are
     /// enough for 449 to 512 bytes: the others are made while the bytes before them are hashed.
     pub fn for_text(length: usize) -> BlocksAtOnce {
-        if WIDE {
+        if wide() {
             return match length.max(1) % 512 {
                 1..=64 => BlocksAtOnce::Two,
                 65..=192 => BlocksAtOnce::Four,
@@ -93,5 +99,5 @@ impl BlocksAtOnce {
 /// stream for the first `ready` bytes is made already. A run is interleaved with the hash of what is masked before it: if that is
 /// less than half a run, a whole run has to follow. An opening hashes that run itself. Sealing 1 KiB became 1.2 times as fast.
 pub fn interleaving_pays(ready: usize, length: usize) -> bool {
-    length > ready && (ready >= RUN / 2 || length - ready >= RUN)
+    length > ready && (ready >= run() / 2 || length - ready >= run())
 }

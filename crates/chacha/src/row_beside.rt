@@ -9,7 +9,7 @@ ghost use Rattle.chacha.specs.Code.Rows.{state_in};
 ghost use Rattle.chacha.specs.Stream.{key_stream_byte};
 
 use crate::lanes::{
-    RESERVE, add, four_counters, half_columns, half_diagonals, set_starts, xor_serialized,
+    add, four_counters, half_columns, half_diagonals, reserve, set_starts, xor_serialized,
 };
 use crate::rows::Rows;
 use octets::{Key32, Nonce, Work, xor_into};
@@ -33,13 +33,13 @@ fn ten_rounds<const N: usize, W: Work>(
         own.step(0);
         half_columns(x, 8, 7);
         row.half_columns(8, 7);
-        own.step(RESERVE);
+        own.step(reserve());
         half_diagonals(x, 16, 12);
         row.half_diagonals(16, 12);
         own.step(0);
         half_diagonals(x, 8, 7);
         row.half_diagonals(8, 7);
-        own.step(RESERVE);
+        own.step(reserve());
     }
     *work = own;
 }

@@ -12,7 +12,7 @@ ghost use Rattle.chacha.specs.Code.Rows.{four_from, read_by_rows, state_in, stat
 
 use crate::lanes::{bytes_of, bytes_of_eight, half_quarter, high_halves, low_halves, sum};
 use crate::state::initial_state;
-use octets::{Idle, Key32, Nonce, WIDE, Work};
+use octets::{Idle, Key32, Nonce, Work, wide};
 use std::simd::{u32x4, u32x8};
 
 // The states of blocks, side by side in four rows.
@@ -375,7 +375,7 @@ pub(crate) fn put_two_blocks<W: Work>(
     ensures stream { IsKeyStream out.new key.now counter nonce.now }
     ensures work { (w : W) → W.reaches w work.old → W.reaches w work.new }
 {
-    if WIDE {
+    if wide() {
         put_set::<[u32x8; 4], W>(key, counter, nonce, out, work);
     } else {
         put_two_sets::<[u32x4; 4], W>(key, counter, nonce, out, work);

@@ -5,7 +5,7 @@ ghost use Rattle.chacha.specs.Stream.{key_stream_byte};
 
 use crate::rows::{put_three_sets, put_two_blocks, put_two_sets};
 use crate::{lanes, row_beside};
-use octets::{Idle, Key32, Nonce, WIDE};
+use octets::{Idle, Key32, Nonce, wide};
 use std::simd::{u32x4, u32x8};
 
 /// The first blocks of a key stream, from counter 0 on (RFC 8439, 2.4).
@@ -94,7 +94,7 @@ impl KeyStreamStart for FourBlocks {
 
     #[inline(always)]
     fn set(&mut self, key: &Key32, nonce: &Nonce) {
-        if WIDE {
+        if wide() {
             put_two_sets::<[u32x8; 4], Idle>(key, 0, nonce, &mut self.bytes, &mut Idle::new());
         } else {
             self.bytes = [0; 256];

@@ -9,11 +9,11 @@ ghost use Rattle.chacha.specs.Stream.{key_stream_byte};
 
 use crate::interleaved::{hash_interleaved, mask_interleaved};
 use crate::plan::{
-    FOUR_AT_MOST, ONE_AT_MOST, SIX_AT_MOST, THREE_AT_MOST, TWO_AT_MOST, has_run_of_eight,
-    has_run_of_four,
+    FOUR_AT_MOST, SIX_AT_MOST, THREE_AT_MOST, TWO_AT_MOST, has_run_of_eight, has_run_of_four,
+    one_at_most,
 };
 use crate::{lanes, row_beside, rows};
-use octets::{BlockWork, Fault, Idle, Key32, Nonce, Stream, WIDE, Work, xor_into};
+use octets::{BlockWork, Fault, Idle, Key32, Nonce, Stream, Work, wide, xor_into};
 use std::simd::{u32x4, u32x8};
 
 // The length in bytes of the key stream from counter 0 on: 2^32 blocks of 64 bytes.
@@ -86,6 +86,9 @@ impl ChaStream {
         ensures begun { take begun bytes.new ≡ take begun bytes.old }
         ensures hashed { (k m : List ℕ) → W.comes_to hash.old [] k m
             → W.comes_to hash.new [] k (m ++ whole_blocks bytes.new) }
+        ensures refused { (key nonce : List ℕ) (first made : ℕ) → Holds self.old key nonce first made
+            → 2 ^ 38 < first * 64 + made + (length bytes.old - begun)
+            → (self.new ≡ self.old) × (bytes.new ≡ bytes.old) }
     {
         if (bytes.len() - begun) as u64 > END - self.offset {
             hash.take_all(&bytes[..bytes.len() / 16 * 16]);
@@ -102,6 +105,8 @@ impl ChaStream {
         ensures did { Did self.old self.new bytes.old bytes.new }
         ensures hashed { (k m : List ℕ) → W.comes_to hash.old [] k m
             → W.comes_to hash.new [] k (m ++ whole_blocks bytes.old) }
+        ensures refused { (key nonce : List ℕ) (first made : ℕ) → Holds self.old key nonce first made
+            → 2 ^ 38 < first * 64 + made + length bytes.old → (self.new ≡ self.old) × (bytes.new ≡ bytes.old) }
     {
         if self.offset + bytes.len() as u64 > END {
             hash.take_all(&bytes[..bytes.len() / 16 * 16]);
@@ -118,7 +123,11 @@ impl Stream for ChaStream {
     ghost did = { Did };
 
     fn apply_next(&mut self, bytes: &mut [u8]) {
-        let _ = self.apply(bytes);
+        // Within the limits of the suites the key stream does not end. No text leaves unmasked if it does.
+        match self.apply(bytes) {
+            Ok(()) => {}
+            Err(_) => bytes.fill(0),
+        }
     }
 }
 
@@ -169,23 +178,23 @@ fn xor_run<W: Work>(
         lanes::xor_fours(key, counter, nonce, &mut bytes[..whole], work);
         return whole;
     }
-    if WIDE && skip == 0 && bytes.len() > SIX_AT_MOST && counter <= u32::MAX - 7 {
+    if wide() && skip == 0 && bytes.len() > SIX_AT_MOST && counter <= u32::MAX - 7 {
         let mut stream = [0; 256];
         let (front, back) = bytes.split_at_mut(256);
         lanes::xor_eight(key, counter, nonce, front, &mut stream, work);
         return 256 + xor_part(&stream, 0, back);
     }
-    if WIDE && skip + bytes.len() > SIX_AT_MOST && counter <= u32::MAX - 7 {
+    if wide() && skip + bytes.len() > SIX_AT_MOST && counter <= u32::MAX - 7 {
         let mut stream = [0; 512];
         lanes::xor_eights(key, counter, nonce, &mut stream, work);
         return xor_part(&stream, skip, bytes);
     }
-    if WIDE && skip + bytes.len() > FOUR_AT_MOST && counter <= u32::MAX - 5 {
+    if wide() && skip + bytes.len() > FOUR_AT_MOST && counter <= u32::MAX - 5 {
         let mut stream = [0; 384];
         rows::put_three_sets::<[u32x8; 4], W>(key, counter, nonce, &mut stream, work);
         return xor_part(&stream, skip, bytes);
     }
-    if WIDE && skip + bytes.len() > TWO_AT_MOST && counter <= u32::MAX - 3 {
+    if wide() && skip + bytes.len() > TWO_AT_MOST && counter <= u32::MAX - 3 {
         let mut stream = [0; 256];
         rows::put_two_sets::<[u32x8; 4], W>(key, counter, nonce, &mut stream, work);
         return xor_part(&stream, skip, bytes);
@@ -205,7 +214,7 @@ fn xor_run<W: Work>(
         rows::put_three_sets::<[u32x4; 4], W>(key, counter, nonce, &mut stream, work);
         return xor_part(&stream, skip, bytes);
     }
-    if skip + bytes.len() > ONE_AT_MOST && counter <= u32::MAX - 1 {
+    if skip + bytes.len() > one_at_most() && counter <= u32::MAX - 1 {
         let mut stream = [0; 128];
         rows::put_two_blocks(key, counter, nonce, &mut stream, work);
         return xor_part(&stream, skip, bytes);
