@@ -18,7 +18,7 @@ use crate::key::AesKey;
 use crate::key_planes::RoundKeyPlanes;
 use crate::planes::Planes;
 use byteorder::{BigEndian, ByteOrder, LittleEndian};
-use octets::{Block, Stream, WIDE, same, xor_into};
+use octets::{Block, Stream, same, wide, xor_into};
 use std::marker::PhantomData;
 use std::simd::u8x16;
 
@@ -192,20 +192,35 @@ impl KnownBlock {
 }
 
 // The shortest text, in bytes, for which making the round keys in planes pays.
-const PLANES_PAY: usize = if WIDE { 193 } else { 97 };
+#[inline(always)]
+fn planes_pay() -> usize {
+    if wide() { 193 } else { 97 }
+}
 
 // A run of four blocks pays for texts longer than this many bytes.
-const FOUR_PAY: usize = if WIDE { 32 } else { 48 };
+#[inline(always)]
+fn four_pay() -> usize {
+    if wide() { 32 } else { 48 }
+}
 
 // Once the key is in planes, a run of sixteen blocks pays for texts longer than this many bytes. In the default build, where a
 // plane takes two registers, it is a run of eight blocks that pays.
-const SIXTEEN_PAY: usize = if WIDE { 96 } else { 64 };
+#[inline(always)]
+fn sixteen_pay() -> usize {
+    if wide() { 96 } else { 64 }
+}
 
 // Up to this many bytes, a run of eight blocks followed by shorter runs takes no longer than one run of sixteen.
-const EIGHT_PAY: usize = if WIDE { 0 } else { 192 };
+#[inline(always)]
+fn eight_pay() -> usize {
+    if wide() { 0 } else { 192 }
+}
 
-// From this many runs of sixteen blocks on, it pays to share their first round.
-const SHARED_PAY: usize = if WIDE { 4 } else { 3 };
+// For more runs of sixteen blocks than this it pays to share their first round.
+#[inline(always)]
+fn shared_pay() -> usize {
+    if wide() { 3 } else { 2 }
+}
 
 // How many of the remaining bytes the next run masks.
 #[inline(always)]
@@ -215,7 +230,7 @@ fn run_of(left: usize) -> usize
     ensures some { 0 < left → 0 < result }
     ensures whole { result < left → result % 16 ≡ 0 }
 {
-    left.min(if left > EIGHT_PAY { 256 } else { 128 })
+    left.min(if left > eight_pay() { 256 } else { 128 })
 }
 
 // The state of a stream without its key: the first block; the number of blocks of which bytes were used, modulo 2^32; and the
@@ -479,7 +494,7 @@ impl<C: Count> Counter<C> {
             self.mask_shared(key, words, bytes);
             return;
         }
-        if !WIDE && bytes.len() <= 128 {
+        if !wide() && bytes.len() <= 128 {
             self.mask_eight(key, words, bytes);
             return;
         }
@@ -501,7 +516,7 @@ impl<C: Count> Counter<C> {
         let block = C::block(&self.first, self.block_count);
         let before = 256 - usize::from(block.bytes()[C::LOW]);
         let runs = (before / 16).min(8).min(left / 256);
-        if runs >= SHARED_PAY {
+        if runs > shared_pay() {
             return 256 * runs;
         }
         run_of(left)
@@ -516,7 +531,7 @@ impl<C: Count> Counter<C> {
         ensures { AdvancesFront C.up key.now self.old self.new bytes.old bytes.new result }
     {
         let mut done = 0;
-        'sixteens: while bytes.len() - done > SIXTEEN_PAY {
+        'sixteens: while bytes.len() - done > sixteen_pay() {
             let next = self.next_run(bytes.len() - done);
             self.mask_sixteen(key, words, &mut bytes[done..done + next]);
             done += next;
@@ -558,11 +573,11 @@ impl<C: Count> Counter<C> {
         requires { self.old.used ≡ 0 }
         ensures { AdvancesFront C.up key.now self.old self.new bytes.old bytes.new result }
     {
-        if bytes.len() <= FOUR_PAY {
+        if bytes.len() <= four_pay() {
             return 0;
         }
         let mut done = 0;
-        'fours: while bytes.len() - done > FOUR_PAY {
+        'fours: while bytes.len() - done > four_pay() {
             let next = (bytes.len() - done).min(64);
             self.mask_four(key, &mut bytes[done..done + next]);
             done += next;
@@ -582,10 +597,10 @@ impl<C: Count> Counter<C> {
         ensures { AdvancesFront C.up key.now self.old self.new bytes.old bytes.new result }
     {
         // A short text returns here, without the call: `apply_fours` would mask nothing.
-        if bytes.len() <= FOUR_PAY {
+        if bytes.len() <= four_pay() {
             return 0;
         }
-        if bytes.len() < PLANES_PAY {
+        if bytes.len() < planes_pay() {
             return self.apply_fours(key, bytes);
         }
         let done = self.apply_sixteens_by(key, planes, bytes);

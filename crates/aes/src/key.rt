@@ -18,7 +18,7 @@ use crate::key_planes::{KeyPlanes, RoundKeyPlanes, ready_planes, unpack};
 use crate::lanes::{self, Lanes, from_basis};
 use crate::planes::{self, BitPlanes, HalfPlanes, Planes, both_halves, lower, upper};
 use crate::schedule::expand;
-use octets::{Block, Fault, Key16, Key24, Key32, WIDE};
+use octets::{Block, Fault, Key16, Key24, Key32, wide};
 use std::marker::Model;
 use std::simd::prelude::*;
 use std::simd::{u8x16, u8x32, u8x64};
@@ -309,7 +309,7 @@ impl AesKey {
             → HoldsSixteen start (λ q. rounds (schedule self.now) from (f q))
             → HoldsBits result (λ l k. slice_index (cipher self.now (f (l / 16 * 8 + k))) (l % 16)) }
     {
-        if WIDE {
+        if wide() {
             return self.encrypt_whole(keys, start, from);
         }
         let mut first = lower(start);

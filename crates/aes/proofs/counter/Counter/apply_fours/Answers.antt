@@ -21,5 +21,5 @@ fours-preserved g c =
     (c.mask_four.auto.bytes ∙ part) c.mask_four.ensures.advances
     (λ l. omega (arith, l, part, within, c.min-next.ensures, c.mask_four.ensures.used))
 
-pub returns-then-bytes-le-FOUR_PAY : goal.returns-then-bytes-le-FOUR_PAY
-returns-then-bytes-le-FOUR_PAY g c = front_none g.C.Count.up c.args.key.now c.args.self.now c.args.bytes.now c.requires
+pub returns-then-bytes-four_pay : goal.returns-then-bytes-four_pay
+returns-then-bytes-four_pay g c = front_none g.C.Count.up c.args.key.now c.args.self.now c.args.bytes.now c.requires

@@ -5,8 +5,8 @@ use Rattle.aes.specs.Code.Planes.{block_byte}
 use Rattle.aes.proofs.SixteenBlocks.{same_bytes, second_block}
 use Rattle.aes.proofs.key.AesKey.encrypt_planes.Goals as goal
 
-pub returns-then-this : goal.returns-then-this
-returns-then-this c = λ f blocks held. c.encrypt_whole.ensures f blocks held
+pub returns-then-wide : goal.returns-then-wide
+returns-then-wide c = λ f blocks held. c.encrypt_whole.ensures f blocks held
 
 pub returns : goal.returns
 returns c = λ f blocks held.
