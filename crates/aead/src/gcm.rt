@@ -1,4 +1,8 @@
 //! The cipher AES-GCM (SP 800-38D, 7), with nonces of 12 bytes.
+//!
+//! A short text goes its own way: `seal_short` and `open_short` encrypt J0 and the counter blocks in one call. All other texts go
+//! through `one_pass`, by `NoncedGcm`. A change keeps alike in both: the block with counter 1, which is J0, masks the tag; the
+//! blocks from counter 2 on mask the text; the hash is over the ciphertext; and no byte is decrypted before the tags are compared.
 
 ghost use Rattle.std.specs.Prelude.{◌≡◌, ◌≢◌, ◌+◌, ◌<◌, ◌≤◌, ◌^◌, ◌++◌, ◌∷◌, ℕ, List, [], length, true, MatchResult};
 ghost use Rattle.std.proofs.Common.{ap};
