@@ -1,4 +1,6 @@
 //! The construction whose tag is over the ciphertext: ChaCha20-Poly1305 (RFC 8439, 2.8) and AES-GCM (SP 800-38D, 7).
+//! Short texts have a way of their own in `gcm` and in `chacha_poly`: the same steps in the same order as `seal_whole` and
+//! `open_whole`, so a change to one is made to all three.
 
 ghost use Rattle.std.specs.Prelude.{◌≡◌, ◌<◌, ◌≤◌, ◌++◌, ℕ, List, [], true, get_or, length, MatchResult};
 ghost use Rattle.aead.specs.Suites.{construction_of, is_one_pass, text_limit, aad_limit};

@@ -183,10 +183,10 @@ impl<'a> MessageKeys<'a> {
         match self.cipher {
             CipherKeys::ChaCha(key) => mask_chacha(state, key, &nonce, order, piece),
             CipherKeys::Gcm(keys) => {
-                aes_pass::mask::<GhashOrder>(state, keys, &nonce, tag, known, order, piece);
+                aes_pass::mask::<GhashOrder>(state, keys, &nonce, known, order, tag, piece);
             }
             CipherKeys::Siv(keys) => {
-                aes_pass::mask::<PolyvalOrder>(state, keys, &nonce, tag, known, order, piece);
+                aes_pass::mask::<PolyvalOrder>(state, keys, &nonce, known, order, tag, piece);
             }
         }
     }

@@ -5,7 +5,7 @@ use Rattle.aead.specs.Code.Masks.{chacha_masks}
 use Rattle.aead.proofs.Maskings.{blocks_and_rest}
 use Rattle.std.proofs.Math.Seq.{take-append_seam}
 use Rattle.std.proofs.lemmas.List.{length-drop, length-take-le}
-use Rattle.aead.proofs.interleaved.hash_and_mask.Goals as goal
+use Rattle.aead.proofs.interleaved.hash_first_interleaved.Goals as goal
 
 pub returns-clause-masks : goal.returns-clause-masks
 returns-clause-masks c = chacha_masks c.args.mask.now _ c.args.piece.now _ c.hash_and_apply.ensures.did

@@ -2,7 +2,7 @@ use Rattle.std.proofs.Common.{ℕ, List, length, refl, sym, subst}
 use Rattle.poly1305.specs.Code.States.{Holds}
 use Rattle.aead.specs.Sealing.{poly_key}
 use Rattle.aead.proofs.Maskings.{blocks_and_rest}
-use Rattle.aead.proofs.interleaved.mask_and_hash.Goals as goal
+use Rattle.aead.proofs.interleaved.mask_first_interleaved.Goals as goal
 
 pub returns-clause-takes : goal.returns-clause-takes
 returns-clause-takes c = λ s m h.

@@ -2,7 +2,7 @@ use Rattle.std.proofs.Common.{◌≡◌, ◌∙◌, sym, ap, arith}
 use Rattle.aead.specs.Suites.{is_one_pass}
 use Rattle.aead.specs.Sealing.{tag_of}
 use Rattle.aead.proofs.Opens.{two_pass_tag}
-use Rattle.aead.proofs.engine.seal_siv.repeats.Goals as goal
+use Rattle.aead.proofs.pieces.two_pass_state.repeats.Goals as goal
 
 pub returns-then-again-first_length : goal.returns-then-again-first_length
 returns-then-again-first_length c = λ s first text by k size is h.
@@ -10,8 +10,7 @@ returns-then-again-first_length c = λ s first text by k size is h.
     c.tag.ensures s text k h ∙ sym (two_pass_tag s text (ap is_one_pass by)) in (
       λ e. (
         omega (arith, h.length_is, size, c.if-again-first_length.true),
-        sym tag_is ∙ sym c.bytes.ensures.value ∙ c.same.ensures.0 e
-            ∙ c.bytes-then-again-first_length.ensures.value ∙ is,
+        sym tag_is ∙ sym c.bytes.ensures.value ∙ c.same.ensures.0 e ∙ is,
       ),
-      λ r. c.same.ensures.1 (c.bytes.ensures.value ∙ tag_is ∙ r.1 ∙ sym is ∙ sym c.bytes-then-again-first_length.ensures.value),
+      λ r. c.same.ensures.1 (c.bytes.ensures.value ∙ tag_is ∙ r.1 ∙ sym is),
     )
