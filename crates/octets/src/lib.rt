@@ -44,7 +44,7 @@ pub use pieces::{Absorb, Pieces};
 pub use script::{ScriptIntake, ScriptOutlet, Step};
 pub use std_io::{FromRead, ToWrite};
 pub use transfer::{fill, give_all};
-pub use vector_width::{WIDE, wide};
+pub use vector_width::wide;
 pub use words::{be_bytes, joined, le_bytes, padded};
 pub use work::{BlockWork, Idle, Interleaved, Stream, Work};
 
