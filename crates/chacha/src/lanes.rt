@@ -143,8 +143,8 @@ pub(crate) fn add<const N: usize>(x: &mut [Simd<u32, N>; 16], start: &[Simd<u32,
 pub(crate) fn set_starts<const N: usize>(
     x: &mut [Simd<u32, N>; 16],
     key: &Key32,
-    nonce: &Nonce,
     counters: Simd<u32, N>,
+    nonce: &Nonce,
 )
     ensures { (j : ℕ) → j < N
         → lane j x.new ≡ initial_state key.now (slice_index counters.entry j) nonce.now }
@@ -194,7 +194,7 @@ pub fn set_four_starts(start: &mut [u32x4; 16], key: &Key32, counter: u32, nonce
     requires { counter + 3 < 2 ^ 32 }
     ensures { HasStarts 4 start.new key.now counter nonce.now }
 {
-    set_starts(start, key, nonce, four_counters(counter));
+    set_starts(start, key, four_counters(counter), nonce);
 }
 
 /// Returns the words of four blocks at once (RFC 8439, 2.3): vector i has word i of each block, and lane j has the block with the
@@ -435,7 +435,7 @@ fn xor_eight_lanes(
 
 // XORs the words of eight lanes, serialized one lane after the other, into twice 256 bytes.
 #[inline(always)]
-fn xor_halves(x: &[u32x8; 16], front: &mut [u8], back: &mut [u8])
+pub(crate) fn xor_halves(x: &[u32x8; 16], front: &mut [u8], back: &mut [u8])
     requires front { length front.old ≡ 256 }
     requires back { length back.old ≡ 256 }
     ensures front { (key nonce : List ℕ) (counter : ℕ) → HasBlocks 8 x.now key counter nonce
@@ -463,83 +463,4 @@ pub(crate) fn xor_eight_serialized(x: &[u32x8; 16], bytes: &mut [u8])
 {
     let (front, back) = bytes.split_at_mut(256);
     xor_halves(x, front, back);
-}
-
-// XORs the key stream from a counter on into whole runs of 256 bytes, and does forty steps of other work in each. The
-// states from which blocks start are set once. It is a separate function, since its frame would slow down runs of eight
-// blocks.
-#[inline(never)]
-pub(crate) fn xor_fours<W: Work>(
-    key: &Key32,
-    counter: u32,
-    nonce: &Nonce,
-    bytes: &mut [u8],
-    work: &mut W,
-)
-    requires some { 256 ≤ length bytes.old }
-    requires whole { length bytes.old % 256 ≡ 0 }
-    requires counters { counter + length bytes.old / 64 ≤ 2 ^ 32 }
-    ensures masked { bytes.new ≡ masked (key_stream_byte key.now nonce.now counter) 0 bytes.old }
-    ensures work { (w : W) → W.reaches w work.old → W.reaches w work.new }
-{
-    let mut own = *work;
-    let mut start = [u32x4::splat(0); 16];
-    set_four_starts(&mut start, key, counter, nonce);
-    let mut done = 0;
-    'runs: while done < bytes.len() {
-        let x = four_blocks(&mut start, &mut own);
-        xor_serialized(&x, &mut bytes[done..done + 256]);
-        done += 256;
-    }
-    *work = own;
-}
-
-// XORs the key stream from a counter on into whole runs of 512 bytes, and does forty steps of other work in each.
-pub(crate) fn xor_eights<W: Work>(
-    key: &Key32,
-    counter: u32,
-    nonce: &Nonce,
-    bytes: &mut [u8],
-    work: &mut W,
-)
-    requires some { 512 ≤ length bytes.old }
-    requires whole { length bytes.old % 512 ≡ 0 }
-    requires counters { counter + length bytes.old / 64 ≤ 2 ^ 32 }
-    ensures masked { bytes.new ≡ masked (key_stream_byte key.now nonce.now counter) 0 bytes.old }
-    ensures work { (w : W) → W.reaches w work.old → W.reaches w work.new }
-{
-    let mut own = *work;
-    let mut start = [u32x8::splat(0); 16];
-    set_starts(&mut start, key, nonce, eight_counters(counter));
-    let mut done = 0;
-    'runs: while done < bytes.len() {
-        let x = next_blocks(&mut start, &mut own);
-        xor_eight_serialized(&x, &mut bytes[done..done + 512]);
-        done += 512;
-    }
-    *work = own;
-}
-
-// XORs the first 512 bytes of the key stream from a counter on into twice 256 bytes, and does forty steps of other work. It
-// is a separate function, since inlining it would slow down the other widths.
-#[inline(never)]
-pub(crate) fn xor_eight<W: Work>(
-    key: &Key32,
-    counter: u32,
-    nonce: &Nonce,
-    front: &mut [u8],
-    back: &mut [u8],
-    work: &mut W,
-)
-    requires counters { counter + 7 < 2 ^ 32 }
-    requires front { length front.old ≡ 256 }
-    requires back { length back.old ≡ 256 }
-    ensures front { front.new ≡ masked (key_stream_byte key.now nonce.now counter) 0 front.old }
-    ensures back { back.new ≡ masked (key_stream_byte key.now nonce.now (counter + 4)) 0 back.old }
-    ensures work { (w : W) → W.reaches w work.old → W.reaches w work.new }
-{
-    let mut start = [u32x8::splat(0); 16];
-    set_starts(&mut start, key, nonce, eight_counters(counter));
-    let x = next_blocks(&mut start, work);
-    xor_halves(&x, front, back);
 }

@@ -1,14 +1,16 @@
 //! How many blocks of a key stream are made at once: every threshold of ChaCha20, in bytes. All forms make the same bytes and
 //! differ in speed alone. The thresholds were found by measuring, and docs/SPEED.md says what each form brings.
 
-ghost use Rattle.std.specs.Prelude.{◌≡◌, ◌≤◌, true};
+ghost use Rattle.std.specs.Prelude.{◌≡◌, ◌<◌, ◌≤◌, true};
 
 use octets::wide;
 
 // The length in bytes of a run, whose blocks are computed side by side and interleaved with other work: eight blocks if they fit
 // into the registers, else four. With AVX2, eight in place of four are 1.5 times as fast.
 #[inline(always)]
-fn run() -> usize {
+fn run() -> usize
+    ensures { (0 < result) × (result ≤ 512) }
+{
     if wide() { 512 } else { 256 }
 }
 
@@ -36,26 +38,15 @@ pub(crate) fn one_at_most() -> usize {
     if wide() { 0 } else { 64 }
 }
 
-/// The length in bytes of two blocks. More key stream than this is made three blocks at once by rows, in 490 cycles, with AVX2 four in
-/// two pairs, in 410.
-pub(crate) const TWO_AT_MOST: usize = 128;
-
-/// The length in bytes of three blocks. Without AVX2, more key stream than this is made four blocks at once in lanes, in 570 cycles.
-pub(crate) const THREE_AT_MOST: usize = 192;
-
-/// The length in bytes of four blocks. More key stream than this is made five blocks at once, one by rows in the idle slots of four in
-/// lanes, in 720 cycles, with AVX2 six in three pairs, in 525.
-pub(crate) const FOUR_AT_MOST: usize = 256;
-
-/// The length in bytes of six blocks. With AVX2, more key stream than this is made eight blocks at once in lanes, in 620 cycles: if the
-/// bytes begin a block, the first half is masked in place, and only the other half by way of a buffer.
+/// The length in bytes of six blocks. More key stream than this is made eight blocks at once in lanes, with AVX2: if the bytes begin a
+/// block, the first half is masked in place, and only the other half by way of a buffer.
 pub(crate) const SIX_AT_MOST: usize = 384;
 
 /// The length in bytes of the longest text that the blocks with the counters 1 to 7 mask. Up to this length an opening hashes the
 /// ciphertext and then decrypts it; in a longer one, both are interleaved.
 pub const SEVEN_BLOCKS: usize = 448;
 
-/// How many blocks of a key stream are computed at once, from counter 0 on.
+/// How many blocks of a key stream are computed at once.
 #[derive(Clone, Copy)]
 pub enum BlocksAtOnce {
     /// The blocks of [`TwoBlocks`](crate::TwoBlocks).
@@ -77,19 +68,30 @@ impl BlocksAtOnce {
     /// counter 0 is not for the text, and the others mask what runs of eight, or without AVX2 of four, do not fill. With AVX2, six are
     /// enough for 449 to 512 bytes: the others are made while the bytes before them are hashed.
     pub fn for_text(length: usize) -> BlocksAtOnce {
+        if wide() && 448 < length && length <= 512 {
+            return BlocksAtOnce::Six;
+        }
+        BlocksAtOnce::for_key_stream(65 + (length.max(1) - 1) % run())
+    }
+
+    /// Returns how many blocks are computed at once for `length` bytes of key stream.
+    #[inline(always)]
+    pub(crate) fn for_key_stream(length: usize) -> BlocksAtOnce {
         if wide() {
-            return match length.max(1) % 512 {
-                1..=64 => BlocksAtOnce::Two,
-                65..=192 => BlocksAtOnce::Four,
-                193..=320 => BlocksAtOnce::Six,
-                _ if 448 < length && length <= 512 => BlocksAtOnce::Six,
+            // By rows two blocks take 310 cycles, four in two pairs 410 and six in three pairs 525, eight in lanes 620.
+            return match length {
+                0..=128 => BlocksAtOnce::Two,
+                129..=256 => BlocksAtOnce::Four,
+                257..=384 => BlocksAtOnce::Six,
                 _ => BlocksAtOnce::Eight,
             };
         }
-        match length.max(1) % 256 {
-            1..=64 => BlocksAtOnce::Two,
-            65..=128 => BlocksAtOnce::Three,
-            129..=192 => BlocksAtOnce::Four,
+        // By rows two blocks take 390 cycles and three 490, four in lanes 570, and five, of which one is made by rows in the idle slots
+        // of four in lanes, 720.
+        match length {
+            0..=128 => BlocksAtOnce::Two,
+            129..=192 => BlocksAtOnce::Three,
+            193..=256 => BlocksAtOnce::Four,
             _ => BlocksAtOnce::Five,
         }
     }
