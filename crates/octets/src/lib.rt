@@ -34,6 +34,7 @@ mod work;
 
 pub use bytes::{
     Block, BlockUse, Bytes, Key16, Key24, Key32, KeyUse, LengthFault, Nonce, NonceUse, Tag, TagUse,
+    tells_bytes,
 };
 pub use compare::{same, xor_into, xored};
 pub use device::{DeviceFault, Intake, Outlet};
