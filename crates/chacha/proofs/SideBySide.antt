@@ -15,7 +15,7 @@ use Rattle.octets.specs.Bytes.{xor_bytes}
 use Rattle.octets.proofs.Xors.{length-xor_bytes}
 use Rattle.chacha.specs.Block.{add_xor_rotate, double_rounds, added, serialized, block_from, initial_state}
 use Rattle.chacha.specs.Block.{block}
-use Rattle.chacha.specs.Code.Lanes.{lane, HasBlocks}
+use Rattle.chacha.specs.Code.Lanes.{lane}
 use Rattle.chacha.proofs.Words.{serialized-append, four_bytes}
 use Rattle.chacha.proofs.Lengths.{length-serialized}
 

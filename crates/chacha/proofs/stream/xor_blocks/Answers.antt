@@ -1,4 +1,4 @@
-use Rattle.std.proofs.Common.{◌≡◌, ◌∙◌, ap, refl, arith, get_or, length, subst, sym, ◌<◌}
+use Rattle.std.proofs.Common.{◌∙◌, ap, refl, get_or, length, subst, ◌<◌}
 use Rattle.chacha.proofs.Masking.{run_of_stream}
 use Rattle.chacha.proofs.stream.xor_blocks.Goals as goal
 
