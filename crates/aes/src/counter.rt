@@ -89,7 +89,8 @@ pub trait Count {
 
     // Returns the block that is `steps` after `first`.
     fn block(first: &Block, steps: u32) -> Block
-        ensures { result ≡ up first.now steps };
+        ensures value { result ≡ up first.now steps }
+        ensures is_block { IsBlock first.now };
 
     // A law for the caller's proof: how the low half of the byte at `LOW` counts. The call does nothing.
     fn counts_in_nibble()
@@ -461,22 +462,21 @@ impl<C: Count> Counter<C> {
         ensures used { self.new.used ≡ 0 }
     {
         C::counts_in_byte();
-        let _first = self.first.bytes();
         let block = C::block(&self.first, self.block_count);
         let mut base = [u8x16::splat(0); 8];
         let mut columns = [[[0; 16]; 4]; 8];
         share_round(&mut base, &mut columns, key, words, block.bytes(), C::LOW);
         let mut done = 0;
-        'runs: while done < bytes.len() {
+        while done < bytes.len() {
             let states = sixteen_states(base, &columns, done / 256);
             self.mask_states(key, words, states, 1, &mut bytes[done..done + 256]);
             done += 256;
         }
     }
 
-    // XORs in the first bytes of the next sixteen blocks, or more whole runs of sixteen that can share their first round. Every earlier
-    // block is used up.
-    fn mask_sixteen(&mut self, key: &AesKey, words: &RoundKeyPlanes, bytes: &mut [u8])
+    // XORs in a run as long as `next_run` says: the first bytes of the next sixteen blocks, or more whole runs of sixteen that can share
+    // their first round. Every earlier block is used up.
+    fn mask_run(&mut self, key: &AesKey, words: &RoundKeyPlanes, bytes: &mut [u8])
         requires ready { AreReady words.now (schedule key.now) (round_count key.now) }
         requires none { self.old.used ≡ 0 }
         requires can { 256 < length bytes.old
@@ -501,7 +501,7 @@ impl<C: Count> Counter<C> {
         self.mask_part(key, words, bytes);
     }
 
-    // How many of the remaining bytes `mask_sixteen` masks next: more than one run only before the counter's byte at `LOW` passes 255,
+    // How many of the remaining bytes `mask_run` masks next: more than one run only before the counter's byte at `LOW` passes 255,
     // and only where a branch may depend on that byte.
     fn next_run(&self, left: usize) -> usize
         ensures within { result ≤ left }
@@ -531,9 +531,9 @@ impl<C: Count> Counter<C> {
         ensures { AdvancesFront C.up key.now self.old self.new bytes.old bytes.new result }
     {
         let mut done = 0;
-        'sixteens: while bytes.len() - done > sixteen_pay() {
+        while bytes.len() - done > sixteen_pay() {
             let next = self.next_run(bytes.len() - done);
-            self.mask_sixteen(key, words, &mut bytes[done..done + next]);
+            self.mask_run(key, words, &mut bytes[done..done + next]);
             done += next;
         }
         done
@@ -577,7 +577,7 @@ impl<C: Count> Counter<C> {
             return 0;
         }
         let mut done = 0;
-        'fours: while bytes.len() - done > four_pay() {
+        while bytes.len() - done > four_pay() {
             let next = (bytes.len() - done).min(64);
             self.mask_four(key, &mut bytes[done..done + next]);
             done += next;
@@ -617,12 +617,12 @@ impl<C: Count> Counter<C> {
         ensures { Advances C.up key.now self.old self.new bytes.old bytes.new }
     {
         let mut done = self.apply_runs(key, planes, bytes);
-        'pairs: while bytes.len() - done > 16 {
+        while bytes.len() - done > 16 {
             let next = (bytes.len() - done).min(32);
             self.mask_two(key, &mut bytes[done..done + next]);
             done += next;
         }
-        'singles: while done < bytes.len() {
+        while done < bytes.len() {
             let next = (bytes.len() - done).min(16);
             self.mask_block(key, &mut bytes[done..done + next]);
             done += next;

@@ -1,5 +1,5 @@
 use Rattle.std.proofs.Common.{◌+◌, ◌%◌, ◌^◌}
-use Rattle.aes.proofs.counter.Counter.mask_sixteen.Goals as goal
+use Rattle.aes.proofs.counter.Counter.mask_run.Goals as goal
 
 pub mask_states-requires-clause-states : goal.mask_states-requires-clause-states
 mask_states-requires-clause-states g c =
