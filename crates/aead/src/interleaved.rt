@@ -25,7 +25,12 @@ pub(crate) fn pays(hash: &Poly, ready: usize, count: usize) -> bool
 // Masks a piece after its first `begun` bytes, which are masked, and hashes all of it as it leaves. This is a separate function, as
 // the next one is, since its frame would slow down short pieces.
 #[inline(never)]
-pub(crate) fn mask_first_interleaved(mask: &mut ChaStream, hash: &mut Poly, piece: &mut [u8], begun: usize)
+pub(crate) fn mask_first_interleaved(
+    mask: &mut ChaStream,
+    hash: &mut Poly,
+    piece: &mut [u8],
+    begun: usize,
+)
     requires begun { begun ≤ length piece.old }
     requires whole { (s : Setting) (m : List ℕ) → HeldByPoly hash.old s m → length m % 16 ≡ 0 }
     ensures did { Did mask.old mask.new (drop begun piece.old) (drop begun piece.new) }

@@ -219,14 +219,7 @@ impl KeyAndNonce {
             }
             Construction::Gcm => {
                 let cipher = AesKey::expanded(key);
-                self.begin_gcm(
-                    state,
-                    key,
-                    &cipher,
-                    &hash_subkey(&cipher),
-                    &nonce,
-                    aad,
-                );
+                self.begin_gcm(state, key, &cipher, &hash_subkey(&cipher), &nonce, aad);
                 Ok(())
             }
             Construction::GcmSiv => {

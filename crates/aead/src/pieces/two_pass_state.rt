@@ -18,7 +18,12 @@ use aes::KnownBlock;
 use octets::{Fault, Tag, same};
 
 // Whether the text of a second reading has the length and the tag of the first one.
-pub(crate) fn repeats(keys: &MessageKeys, again: &PassState, first_length: u64, tag: &[u8; 16]) -> bool
+pub(crate) fn repeats(
+    keys: &MessageKeys,
+    again: &PassState,
+    first_length: u64,
+    tag: &[u8; 16],
+) -> bool
     ensures { (s : Setting) (first text : List ℕ) → construction_of s.suite ≡ ByGcmSiv → AreKeysOf keys.now s
         → first_length ≡ length first → tag.now ≡ tag_of s first → HoldsNumbers again.now s text
         → IsTrue result ↔ Repeats s first text }
