@@ -17,13 +17,13 @@ ghost use Rattle.aead.specs.declared.suite.Suite.TheVariants.{ChaCha20Poly1305};
 use crate::aead::Aead;
 use crate::authenticator::Authenticator;
 use crate::buffered_stream::BufferedStream;
-use crate::one_pass::{OnePass, open_and_restore, open_whole, seal_whole, tells_bytes};
+use crate::one_pass::{OnePass, open_and_restore, open_whole, seal_whole};
 use crate::suite::Suite;
 use chacha::{
     BlocksAtOnce, ChaStream, EightBlocks, FiveBlocks, FourBlocks, KeyStreamStart, SEVEN_BLOCKS,
     SixBlocks, ThreeBlocks, TwoBlocks, block,
 };
-use octets::{Block, Fault, Key32, Nonce, Tag, same, xor_into};
+use octets::{Block, Fault, Key32, Nonce, Tag, same, tells_bytes, xor_into};
 use poly1305::Poly;
 use std::marker::Model;
 

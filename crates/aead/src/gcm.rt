@@ -21,11 +21,13 @@ ghost use Rattle.aead.specs.InPlace.{OpensInPlace};
 
 use crate::aead::Aead;
 use crate::authenticator::Authenticator;
-use crate::one_pass::{OnePass, open_whole, seal_whole, tells_bytes};
+use crate::one_pass::{OnePass, open_whole, seal_whole};
 use crate::suite::Suite;
 use aes::{AesKey, CtrBe};
 use gf128::{Ghash, Keyed128, Multiply, TableMul, WideMul};
-use octets::{Block, Fault, Nonce, Tag, joined, le_bytes, same, wide, xor_into, xored};
+use octets::{
+    Block, Fault, Nonce, Tag, joined, le_bytes, same, tells_bytes, wide, xor_into, xored,
+};
 use std::marker::Model;
 
 /// AES-GCM under a key of 16, 24 or 32 bytes (SP 800-38D). Opening in place authenticates before it

@@ -33,14 +33,6 @@ impl<'a> Multiply for LentMul<'a> {
     ghost key_bytes = { lent_key };
 
     #[inline(always)]
-    fn times(&self, x: &Block) -> Block {
-        match self {
-            LentMul::Table(multiplier) => multiplier.times(x),
-            LentMul::Wide(multiplier) => multiplier.times(x),
-        }
-    }
-
-    #[inline(always)]
     fn times_word(&self, x: u128) -> u128 {
         match self {
             LentMul::Table(multiplier) => multiplier.times_word(x),
