@@ -314,7 +314,8 @@ refuses_none (Some x) None r e = tt
 refuses_none (Some x) (Some y) r e = (λ is. inr e, λ p. absurd (cc))
 
 -- a request that ran out of memory before its file was made
-pub unwritten : {O : Type 0} (leads_to : List ℕ → Option (Option Identity)) (contents : List ℕ → ℕ → Option (List ℕ)) (blank : List ℕ → Option (List ℕ))
+pub unwritten : {O : Type 0} (leads_to : List ℕ → Option (Option Identity))
+    (contents : List ℕ → ℕ → Option (List ℕ)) (blank : List ℕ → Option (List ℕ))
     (taken : O → Option (List ℕ)) (request : FileRequest) (r : Result ℕ Failure)
     → r ≡ Err (OfFault OutOfMemory) → Wrote leads_to contents blank taken request r
 unwritten leads_to contents blank taken request r e = rw e (record {
@@ -326,7 +327,8 @@ unwritten leads_to contents blank taken request r e = rw e (record {
 })
 
 -- the result of a request whose file was not made before
-pub wrote : {O : Type 0} (leads_to : List ℕ → Option (Option Identity)) (contents : List ℕ → ℕ → Option (List ℕ)) (blank : List ℕ → Option (List ℕ))
+pub wrote : {O : Type 0} (leads_to : List ℕ → Option (Option Identity))
+    (contents : List ℕ → ℕ → Option (List ℕ)) (blank : List ℕ → Option (List ℕ))
     (taken : O → Option (List ℕ)) (request : FileRequest) (before : Option (List ℕ)) (file file' : Option O)
     (r : Result ℕ Failure) → before ≡ blank request.output.now → file ≡ None
     → MatchResult r

@@ -78,8 +78,9 @@ IsRefusedAs NoMemory before after result = (result ≡ Err (OfFault OutOfMemory)
 -- what is printed for a request or a refusal, and the status or the failure. `leads_to` are the identities of files, `contents`
 -- the bytes that each file gives in each reading, `blank` those that it holds once it is made, and `taken` those of an output. A
 -- file command prints nothing
-abbrev pub Answers : {O : Type 0} → (leads_to : List ℕ → Option (Option Identity)) → (contents : List ℕ → ℕ → Option (List ℕ))
-    → (blank : List ℕ → Option (List ℕ)) → (taken : O → Option (List ℕ)) → (before after : Option (List ℕ))
+abbrev pub Answers : {O : Type 0} → (leads_to : List ℕ → Option (Option Identity))
+    → (contents : List ℕ → ℕ → Option (List ℕ)) → (blank : List ℕ → Option (List ℕ))
+    → (taken : O → Option (List ℕ)) → (before after : Option (List ℕ))
     → Result Request Refusal → Result ℕ Failure → Type 0
 Answers leads_to contents blank taken before after (Ok (Print request)) result =
     MatchResult result (Answered contents before after request) (Stopped contents before after request)
@@ -102,7 +103,8 @@ NamesFailure before after result = MatchResult result (λ _. after ≡ before)
     (λ failure. AppendsBeginning before after (failure_line failure))
 
 -- what is printed on standard output and on standard error, and the status, if the words are read as this
-pub record Ends {O : Type 0} (leads_to : List ℕ → Option (Option Identity)) (contents : List ℕ → ℕ → Option (List ℕ)) (blank : List ℕ → Option (List ℕ))
+pub record Ends {O : Type 0} (leads_to : List ℕ → Option (Option Identity))
+    (contents : List ℕ → ℕ → Option (List ℕ)) (blank : List ℕ → Option (List ℕ))
     (taken : O → Option (List ℕ)) (before after err_before err_after : Option (List ℕ))
     (read : Result Request Refusal) (status : ℕ) : Type 0 where
   pub result : Result ℕ Failure
@@ -111,7 +113,8 @@ pub record Ends {O : Type 0} (leads_to : List ℕ → Option (Option Identity)) 
   pub status_is : status ≡ status_of result
 
 -- what is printed, and the status, for words that are read as some request or refusal
-pub record Runs {O : Type 0} (leads_to : List ℕ → Option (Option Identity)) (contents : List ℕ → ℕ → Option (List ℕ)) (blank : List ℕ → Option (List ℕ))
+pub record Runs {O : Type 0} (leads_to : List ℕ → Option (Option Identity))
+    (contents : List ℕ → ℕ → Option (List ℕ)) (blank : List ℕ → Option (List ℕ))
     (taken : O → Option (List ℕ)) (before after err_before err_after : Option (List ℕ)) (status : ℕ)
     : Type 0 where
   pub read : Result Request Refusal

@@ -126,6 +126,7 @@ pub record Wrote {O : Type 0} (leads_to : List ℕ → Option (Option Identity))
     (taken : O → Option (List ℕ)) (request : FileRequest) (r : Result ℕ Failure) : Type 0 where
   -- the output, if it was made
   pub file : Option O
+  -- with `Words` if both paths lead to one file; then it was not made, as `unmade` says
   pub two_files : RefusesOneFile leads_to request r
   -- on `Ok` it was made, and holds all that the engine gave
   pub done : IfOk r (λ status. (status ≡ 0) × (is_some file ≡ true) × FileDone (EngineOf contents request)

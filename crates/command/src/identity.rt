@@ -13,8 +13,8 @@ pub struct Identity {
 }
 
 impl Identity {
-    // Returns the identity of a regular file or a block device. Anything else, as a pipe or a terminal, holds no bytes that a write
-    // could destroy, and may serve as IN and as OUT at once.
+    // Returns the identity of a regular file or a block device. Anything else, as a pipe or a terminal, holds no bytes that a
+    // write could destroy, and may serve as IN and as OUT at once.
     pub(crate) fn of(about: &Metadata) -> Option<Identity> {
         if !about.is_file() && !about.file_type().is_block_device() {
             return None;
