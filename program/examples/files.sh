@@ -14,7 +14,7 @@
 #   its own OUT.how, only if its label is the same: let the label say what the file is, and when it was sealed;
 # - a nonce that comes twice: it is drawn at random for each file, and a repeat under AES-GCM-SIV gives away only whether text
 #   and label were the same.
-# OUT must not exist. It is written under another name, and gets its own after status 0.
+# OUT must not exist, nor OUT.how when OUT is sealed. Both are written under other names, and get their own after status 0.
 #
 # Status: 0 done; 1 not authentic: changed, cut, or sealed under another key, suite, nonce or label; 2 wrong words, key or
 # OUT.how; 3 a file failed, or changed while it was read; 4 out of memory.
@@ -59,6 +59,7 @@ trap 'rm -f "$new" "$new.how"' EXIT
 case $1 in
 seal)
     how=$out.how
+    [ ! -e "$how" ] || fail 2 "$how exists" # without it another sealed file can't be opened
     nonce=$(head -c 12 /dev/urandom | hex)
     run seal-file
     printf 'suite=%s\nnonce=%s\nlabel=%s\n' "$suite" "$nonce" "$label" > "$new.how" || fail 3 "$how can't be written"

@@ -80,6 +80,9 @@ does 2 open key "it's a label" sealed opened # opened is there
 does 1 open key "another label" sealed out
 does 1 open another-key "it's a label" sealed out
 does 3 seal key label no-file out
+mv sealed moved
+does 2 seal key label "a text" sealed # sealed.how is there
+mv moved sealed
 for damage in 'head -c 65536' 'sed s/^/x/' 'cat - key'; do
     $damage < sealed > changed
     cp sealed.how changed.how

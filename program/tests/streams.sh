@@ -50,6 +50,29 @@ ends 2 Words seal-file $once --in out --out out
 cmp out long
 ends 3 Write seal-file $once --in text --out no/out
 
+# An OUT that is IN under another name is refused, whatever the other words are, and IN stays.
+ln long hard
+ln -s long link
+mkdir folder
+ln -s .. folder/up
+for name in ./long hard link folder/up/long "$room/long"; do
+    ends 2 Words seal-file $once --in long --out "$name"
+    ends 2 Words seal-file $twice --in "$name" --out long
+    ends 2 Words open-file --suite des --key 0 --nonce 0 --in long --out "$name"
+done
+ends 2 Words seal-file $once --in /dev/stdin --out hard < long
+status=0
+"$program" seal-file $once --in long --out /dev/stdout >> link 2> fault || status=$?
+[ "$status $(cat fault)" = "2 aeadkit: Words" ] || fails "standard output over IN: $status $(cat fault)"
+[ "$(tr -d '\0' < long | wc -c) $(wc -c < long)" = "0 300000" ] || fails "IN was written under another name"
+
+# A link that leads nowhere yet, and a device that keeps no bytes, are not IN. A file that ends too early is not IN as a whole.
+ln -s new nowhere
+ends 0 '' seal-file $once --in long --out nowhere
+cmp new long.once
+ends 0 '' seal-file $once --in /dev/null --out /dev//null
+! head -c 1 /sys/kernel/uevent_seqnum > /dev/null 2>&1 || ends 3 Read seal-file $once --in /sys/kernel/uevent_seqnum --out out
+
 # Standard output is closed.
 status=0
 "$program" --version >&- 2> fault || status=$?

@@ -13,7 +13,6 @@ use Rattle.aead.specs.Suites.{Construction, ByChaCha, ByGcm, ByGcmSiv, construct
 use Rattle.aead.specs.Suites.{text_limit_by}
 use Rattle.aead.specs.Sealing.{Setting, authentication_key, encryption_key, mask_of, tag_over, tag_of}
 use Rattle.aead.specs.KeyedPasses.{setting_of, cipher_key, HasKeys, authenticated_by}
-use Rattle.aead.specs.Code.States.{block_key}
 use Rattle.aead.proofs.Opens.{body_tag, two_pass_tag}
 
 -- neither construction of AES is that of ChaCha20-Poly1305, since their limits differ
@@ -44,18 +43,12 @@ has_keys p s key is long key_fits nonce_fits first padded nonce = record {
   nonce_is = nonce;
 }
 
--- the keys that the cipher and the hash use do not depend on the associated data
-pub same_cipher_key : (by : Construction) (s : Setting) (aad : List ℕ)
+-- the key that the cipher uses does not depend on the associated data
+same_cipher_key : (by : Construction) (s : Setting) (aad : List ℕ)
     → cipher_key by s ≡ cipher_key by (setting_of s.suite s.key s.nonce aad)
 same_cipher_key ByChaCha s aad = refl
 same_cipher_key ByGcm s aad = refl
 same_cipher_key ByGcmSiv s aad = refl
-
-pub same_block_key : (by : Construction) (s : Setting) (aad : List ℕ)
-    → block_key by s ≡ block_key by (setting_of s.suite s.key s.nonce aad)
-same_block_key ByChaCha s aad = refl
-same_block_key ByGcm s aad = refl
-same_block_key ByGcmSiv s aad = refl
 
 pub has_keys_with : (p : KeyAndNonce) (s : Setting) (aad : List ℕ) → HasKeys p s
     → HasKeys p (setting_of s.suite s.key s.nonce aad)

@@ -5,7 +5,7 @@ ghost use Rattle.std.specs.Prelude.{◌≡◌, ◌+◌, ◌%◌, ◌<◌, ◌≤
 ghost use Rattle.chacha.specs.Stream.{key_stream_byte};
 
 use crate::hashes::TagHash;
-use crate::interleaved::{mask_and_hash, pays};
+use crate::interleaved::{mask_first_interleaved, pays};
 use crate::mask::MaskStream;
 use crate::step::MaskWith;
 use chacha::ChaStream;
@@ -49,7 +49,7 @@ impl<'a> BufferedStream<'a> {
     // Masks a piece and hashes it as it leaves, interleaved. This is a separate function, since its frame would slow down short
     // pieces.
     #[inline(never)]
-    fn mask_and_hash(&mut self, hash: &mut Poly, piece: &mut [u8])
+    fn mask_first_interleaved(&mut self, hash: &mut Poly, piece: &mut [u8])
         requires { (s : Setting) (m : List ℕ) → HeldByPoly hash.old s m → length m % 16 ≡ 0 }
         ensures did { DidBuffered self.old self.new piece.old piece.new }
         ensures takes { Takes HeldByPoly hash.old hash.new piece.new }
@@ -58,7 +58,7 @@ impl<'a> BufferedStream<'a> {
         let (first, _) = piece.split_at_mut(n);
         xor_into(first, &self.start[self.used..self.used + n]);
         self.used += n;
-        mask_and_hash(&mut self.rest, hash, piece, n);
+        mask_first_interleaved(&mut self.rest, hash, piece, n);
     }
 }
 
@@ -72,8 +72,7 @@ impl<'a> Stream for BufferedStream<'a> {
         let (first, last) = bytes.split_at_mut(n);
         xor_into(first, &self.start[self.used..self.used + n]);
         self.used += n;
-        // Within the limit of a text the key stream does not end.
-        let _ = self.rest.apply(last);
+        self.rest.apply_next(last);
     }
 }
 
@@ -90,7 +89,7 @@ impl<'a> MaskWith<Poly> for BufferedStream<'a> {
     #[inline(always)]
     fn mask_first(&mut self, hash: &mut Poly, piece: &mut [u8]) {
         if pays(hash, self.start.len() - self.used, piece.len()) {
-            self.mask_and_hash(hash, piece);
+            self.mask_first_interleaved(hash, piece);
             return;
         }
         self.apply_to(piece);

@@ -1,5 +1,9 @@
 //! The cipher ChaCha20-Poly1305 (RFC 8439, 2.8). The block with counter 0 begins with the key of Poly1305, and the text is
 //! masked from counter 1 on.
+//!
+//! A text that the first blocks of the key stream cover goes its own way, by `seal_short` and `open_short`. All other texts go
+//! through `one_pass`, by `BufferedChaCha` or `NoncedChaCha`. A change keeps alike in both where the key of Poly1305 and the mask
+//! begin, that the hash is over the ciphertext, and that `open_fitting` compares the tags before it decrypts a byte.
 
 ghost use Rattle.std.specs.Prelude.{◌≡◌, ℕ, List, ◌+◌, ◌-◌, ◌^◌, ◌%◌, ◌<◌, ◌≤◌, ◌++◌, length, take, slice_index, refl};
 ghost use Rattle.chacha.specs.Stream.{key_stream_byte};
@@ -13,13 +17,13 @@ ghost use Rattle.aead.specs.declared.suite.Suite.TheVariants.{ChaCha20Poly1305};
 use crate::aead::Aead;
 use crate::authenticator::Authenticator;
 use crate::buffered_stream::BufferedStream;
-use crate::one_pass::{OnePass, open_and_restore, open_whole, seal_whole, tells_bytes};
+use crate::one_pass::{OnePass, open_and_restore, open_whole, seal_whole};
 use crate::suite::Suite;
 use chacha::{
     BlocksAtOnce, ChaStream, EightBlocks, FiveBlocks, FourBlocks, KeyStreamStart, SEVEN_BLOCKS,
     SixBlocks, ThreeBlocks, TwoBlocks, block,
 };
-use octets::{Block, Fault, Key32, Nonce, Tag, same, xor_into};
+use octets::{Block, Fault, Key32, Nonce, Tag, same, tells_bytes, xor_into};
 use poly1305::Poly;
 use std::marker::Model;
 
@@ -54,7 +58,7 @@ impl ChaChaPoly {
 
     // Seals a text. The first blocks of the key stream are made together, as many as `S` says.
     #[inline(never)]
-    fn seal_from<S: KeyStreamStart>(&self, nonce: &Nonce, aad: &[u8], text: &mut [u8]) -> Tag
+    fn seal_at_once<S: KeyStreamStart>(&self, nonce: &Nonce, aad: &[u8], text: &mut [u8]) -> Tag
         requires aad_fits { length aad.now ≤ aad_limit self.now.suite }
         requires text_fits { length text.old ≤ text_limit self.now.suite }
         ensures { Opened (setting self.now nonce.now aad.now) (text.new ++ result) text.old }
@@ -72,7 +76,7 @@ impl ChaChaPoly {
 
     // Opens a ciphertext. The first blocks of the key stream are made together, as many as `S` says.
     #[inline(never)]
-    fn open_from<S: KeyStreamStart>(
+    fn open_at_once<S: KeyStreamStart>(
         &self,
         nonce: &Nonce,
         aad: &[u8],
@@ -259,12 +263,12 @@ impl Aead for ChaChaPoly {
 
     fn seal_fitting(&self, nonce: &Nonce, aad: &[u8], text: &mut [u8]) -> Tag {
         match BlocksAtOnce::for_text(text.len()) {
-            BlocksAtOnce::Two => self.seal_from::<TwoBlocks>(nonce, aad, text),
-            BlocksAtOnce::Three => self.seal_from::<ThreeBlocks>(nonce, aad, text),
-            BlocksAtOnce::Four => self.seal_from::<FourBlocks>(nonce, aad, text),
-            BlocksAtOnce::Five => self.seal_from::<FiveBlocks>(nonce, aad, text),
-            BlocksAtOnce::Six => self.seal_from::<SixBlocks>(nonce, aad, text),
-            BlocksAtOnce::Eight => self.seal_from::<EightBlocks>(nonce, aad, text),
+            BlocksAtOnce::Two => self.seal_at_once::<TwoBlocks>(nonce, aad, text),
+            BlocksAtOnce::Three => self.seal_at_once::<ThreeBlocks>(nonce, aad, text),
+            BlocksAtOnce::Four => self.seal_at_once::<FourBlocks>(nonce, aad, text),
+            BlocksAtOnce::Five => self.seal_at_once::<FiveBlocks>(nonce, aad, text),
+            BlocksAtOnce::Six => self.seal_at_once::<SixBlocks>(nonce, aad, text),
+            BlocksAtOnce::Eight => self.seal_at_once::<EightBlocks>(nonce, aad, text),
         }
     }
 
@@ -276,12 +280,12 @@ impl Aead for ChaChaPoly {
         tag: &Tag,
     ) -> Result<(), Fault> {
         match BlocksAtOnce::for_text(body.len()) {
-            BlocksAtOnce::Two => self.open_from::<TwoBlocks>(nonce, aad, body, tag),
-            BlocksAtOnce::Three => self.open_from::<ThreeBlocks>(nonce, aad, body, tag),
-            BlocksAtOnce::Four => self.open_from::<FourBlocks>(nonce, aad, body, tag),
-            BlocksAtOnce::Five => self.open_from::<FiveBlocks>(nonce, aad, body, tag),
-            BlocksAtOnce::Six => self.open_from::<SixBlocks>(nonce, aad, body, tag),
-            BlocksAtOnce::Eight => self.open_from::<EightBlocks>(nonce, aad, body, tag),
+            BlocksAtOnce::Two => self.open_at_once::<TwoBlocks>(nonce, aad, body, tag),
+            BlocksAtOnce::Three => self.open_at_once::<ThreeBlocks>(nonce, aad, body, tag),
+            BlocksAtOnce::Four => self.open_at_once::<FourBlocks>(nonce, aad, body, tag),
+            BlocksAtOnce::Five => self.open_at_once::<FiveBlocks>(nonce, aad, body, tag),
+            BlocksAtOnce::Six => self.open_at_once::<SixBlocks>(nonce, aad, body, tag),
+            BlocksAtOnce::Eight => self.open_at_once::<EightBlocks>(nonce, aad, body, tag),
         }
     }
 

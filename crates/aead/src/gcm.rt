@@ -1,4 +1,8 @@
 //! The cipher AES-GCM (SP 800-38D, 7), with nonces of 12 bytes.
+//!
+//! A short text goes its own way: `seal_short` and `open_short` encrypt J0 and the counter blocks in one call. All other texts go
+//! through `one_pass`, by `NoncedGcm`. A change keeps alike in both: the block with counter 1, which is J0, masks the tag; the
+//! blocks from counter 2 on mask the text; the hash is over the ciphertext; and no byte is decrypted before the tags are compared.
 
 ghost use Rattle.std.specs.Prelude.{◌≡◌, ◌≢◌, ◌+◌, ◌<◌, ◌≤◌, ◌^◌, ◌++◌, ◌∷◌, ℕ, List, [], length, true, MatchResult};
 ghost use Rattle.std.proofs.Common.{ap};
@@ -17,11 +21,13 @@ ghost use Rattle.aead.specs.InPlace.{OpensInPlace};
 
 use crate::aead::Aead;
 use crate::authenticator::Authenticator;
-use crate::one_pass::{OnePass, open_whole, seal_whole, tells_bytes};
+use crate::one_pass::{OnePass, open_whole, seal_whole};
 use crate::suite::Suite;
 use aes::{AesKey, CtrBe};
 use gf128::{Ghash, Keyed128, Multiply, TableMul, WideMul};
-use octets::{Block, Fault, Nonce, Tag, WIDE, joined, le_bytes, same, xor_into, xored};
+use octets::{
+    Block, Fault, Nonce, Tag, joined, le_bytes, same, tells_bytes, wide, xor_into, xored,
+};
 use std::marker::Model;
 
 /// AES-GCM under a key of 16, 24 or 32 bytes (SP 800-38D). Opening in place authenticates before it
@@ -145,7 +151,7 @@ pub(crate) fn nonce_and_counter(nonce: &Nonce, counter: u8) -> Block
 fn is_short(count: usize) -> bool
     ensures { result ≡ true → count ≤ 48 }
 {
-    0 < count && count <= 48 && (WIDE || count <= 16 || 32 < count)
+    0 < count && count <= 48 && (wide() || count <= 16 || 32 < count)
 }
 
 // Returns J0 and the counter block after it (SP 800-38D, 7.1).

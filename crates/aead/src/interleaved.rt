@@ -25,7 +25,12 @@ pub(crate) fn pays(hash: &Poly, ready: usize, count: usize) -> bool
 // Masks a piece after its first `begun` bytes, which are masked, and hashes all of it as it leaves. This is a separate function, as
 // the next one is, since its frame would slow down short pieces.
 #[inline(never)]
-pub(crate) fn mask_and_hash(mask: &mut ChaStream, hash: &mut Poly, piece: &mut [u8], begun: usize)
+pub(crate) fn mask_first_interleaved(
+    mask: &mut ChaStream,
+    hash: &mut Poly,
+    piece: &mut [u8],
+    begun: usize,
+)
     requires begun { begun ≤ length piece.old }
     requires whole { (s : Setting) (m : List ℕ) → HeldByPoly hash.old s m → length m % 16 ≡ 0 }
     ensures did { Did mask.old mask.new (drop begun piece.old) (drop begun piece.new) }
@@ -42,7 +47,7 @@ pub(crate) fn mask_and_hash(mask: &mut ChaStream, hash: &mut Poly, piece: &mut [
 
 // Hashes a piece as it comes, and masks it.
 #[inline(never)]
-fn hash_and_mask(mask: &mut ChaStream, hash: &mut Poly, piece: &mut [u8])
+fn hash_first_interleaved(mask: &mut ChaStream, hash: &mut Poly, piece: &mut [u8])
     requires { (s : Setting) (m : List ℕ) → HeldByPoly hash.old s m → length m % 16 ≡ 0 }
     ensures masks { Masks MadeByChaCha mask.old mask.new piece.old piece.new }
     ensures takes { Takes HeldByPoly hash.old hash.new piece.old }
@@ -61,7 +66,7 @@ impl MaskWith<Poly> for ChaStream {
     #[inline(always)]
     fn mask_first(&mut self, hash: &mut Poly, piece: &mut [u8]) {
         if pays(hash, 0, piece.len()) {
-            mask_and_hash(self, hash, piece, 0);
+            mask_first_interleaved(self, hash, piece, 0);
             return;
         }
         self.apply_to(piece);
@@ -71,7 +76,7 @@ impl MaskWith<Poly> for ChaStream {
     #[inline(always)]
     fn hash_first(&mut self, hash: &mut Poly, piece: &mut [u8]) {
         if pays(hash, 0, piece.len()) {
-            hash_and_mask(self, hash, piece);
+            hash_first_interleaved(self, hash, piece);
             return;
         }
         hash.take_in(piece);

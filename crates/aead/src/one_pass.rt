@@ -1,6 +1,8 @@
 //! The construction whose tag is over the ciphertext: ChaCha20-Poly1305 (RFC 8439, 2.8) and AES-GCM (SP 800-38D, 7).
+//! Short texts have a way of their own in `gcm` and in `chacha_poly`: the same steps in the same order as `seal_whole` and
+//! `open_whole`, so a change to one is made to all three.
 
-ghost use Rattle.std.specs.Prelude.{◌≡◌, ◌<◌, ◌≤◌, ◌++◌, ℕ, List, [], true, get_or, length, MatchResult};
+ghost use Rattle.std.specs.Prelude.{◌≡◌, ◌≤◌, ◌++◌, ℕ, List, [], true, length, MatchResult};
 ghost use Rattle.aead.specs.Suites.{construction_of, is_one_pass, text_limit, aad_limit};
 ghost use Rattle.octets.specs.Masked.{masked};
 ghost use Rattle.aead.specs.Sealing.{Opened, mask_of, tag_over};
@@ -13,7 +15,7 @@ use crate::authenticator::Authenticator;
 use crate::hashes::TagHash;
 use crate::mask::MaskStream;
 use crate::step::{MaskWith, Order, step};
-use octets::{Block, Fault, Tag, same};
+use octets::{Block, Fault, Tag, same, tells_bytes};
 
 // A message under a cipher and a nonce: it gives the mask and the hash of what is authenticated, and makes the tag of the hash. The
 // mask does not depend on the tag.
@@ -41,11 +43,6 @@ pub(crate) trait OnePass {
 
     ghost one_pass: { (n : Self) → is_one_pass (construction_of (keyed n).suite) ≡ true };
 }
-
-// Does nothing when it runs. It tells the proof of its caller that each byte of a slice is below 256.
-pub(crate) fn tells_bytes(bytes: &[u8])
-    ensures { (i : ℕ) → get_or bytes.now i 0 < 256 }
-{}
 
 // Encrypts a text in place, and returns the tag over the ciphertext.
 pub(crate) fn seal_whole<N: OnePass>(message: &N, aad: &[u8], text: &mut [u8]) -> Tag

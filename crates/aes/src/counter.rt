@@ -18,7 +18,7 @@ use crate::key::AesKey;
 use crate::key_planes::RoundKeyPlanes;
 use crate::planes::Planes;
 use byteorder::{BigEndian, ByteOrder, LittleEndian};
-use octets::{Block, Stream, WIDE, same, xor_into};
+use octets::{Block, Stream, same, wide, xor_into};
 use std::marker::PhantomData;
 use std::simd::u8x16;
 
@@ -89,7 +89,8 @@ pub trait Count {
 
     // Returns the block that is `steps` after `first`.
     fn block(first: &Block, steps: u32) -> Block
-        ensures { result ≡ up first.now steps };
+        ensures value { result ≡ up first.now steps }
+        ensures is_block { IsBlock first.now };
 
     // A law for the caller's proof: how the low half of the byte at `LOW` counts. The call does nothing.
     fn counts_in_nibble()
@@ -192,20 +193,35 @@ impl KnownBlock {
 }
 
 // The shortest text, in bytes, for which making the round keys in planes pays.
-const PLANES_PAY: usize = if WIDE { 193 } else { 97 };
+#[inline(always)]
+fn planes_pay() -> usize {
+    if wide() { 193 } else { 97 }
+}
 
 // A run of four blocks pays for texts longer than this many bytes.
-const FOUR_PAY: usize = if WIDE { 32 } else { 48 };
+#[inline(always)]
+fn four_pay() -> usize {
+    if wide() { 32 } else { 48 }
+}
 
 // Once the key is in planes, a run of sixteen blocks pays for texts longer than this many bytes. In the default build, where a
 // plane takes two registers, it is a run of eight blocks that pays.
-const SIXTEEN_PAY: usize = if WIDE { 96 } else { 64 };
+#[inline(always)]
+fn sixteen_pay() -> usize {
+    if wide() { 96 } else { 64 }
+}
 
 // Up to this many bytes, a run of eight blocks followed by shorter runs takes no longer than one run of sixteen.
-const EIGHT_PAY: usize = if WIDE { 0 } else { 192 };
+#[inline(always)]
+fn eight_pay() -> usize {
+    if wide() { 0 } else { 192 }
+}
 
-// From this many runs of sixteen blocks on, it pays to share their first round.
-const SHARED_PAY: usize = if WIDE { 4 } else { 3 };
+// For more runs of sixteen blocks than this it pays to share their first round.
+#[inline(always)]
+fn shared_pay() -> usize {
+    if wide() { 3 } else { 2 }
+}
 
 // How many of the remaining bytes the next run masks.
 #[inline(always)]
@@ -215,7 +231,7 @@ fn run_of(left: usize) -> usize
     ensures some { 0 < left → 0 < result }
     ensures whole { result < left → result % 16 ≡ 0 }
 {
-    left.min(if left > EIGHT_PAY { 256 } else { 128 })
+    left.min(if left > eight_pay() { 256 } else { 128 })
 }
 
 // The state of a stream without its key: the first block; the number of blocks of which bytes were used, modulo 2^32; and the
@@ -446,22 +462,21 @@ impl<C: Count> Counter<C> {
         ensures used { self.new.used ≡ 0 }
     {
         C::counts_in_byte();
-        let _first = self.first.bytes();
         let block = C::block(&self.first, self.block_count);
         let mut base = [u8x16::splat(0); 8];
         let mut columns = [[[0; 16]; 4]; 8];
         share_round(&mut base, &mut columns, key, words, block.bytes(), C::LOW);
         let mut done = 0;
-        'runs: while done < bytes.len() {
+        while done < bytes.len() {
             let states = sixteen_states(base, &columns, done / 256);
             self.mask_states(key, words, states, 1, &mut bytes[done..done + 256]);
             done += 256;
         }
     }
 
-    // XORs in the first bytes of the next sixteen blocks, or more whole runs of sixteen that can share their first round. Every earlier
-    // block is used up.
-    fn mask_sixteen(&mut self, key: &AesKey, words: &RoundKeyPlanes, bytes: &mut [u8])
+    // XORs in a run as long as `next_run` says: the first bytes of the next sixteen blocks, or more whole runs of sixteen that can share
+    // their first round. Every earlier block is used up.
+    fn mask_run(&mut self, key: &AesKey, words: &RoundKeyPlanes, bytes: &mut [u8])
         requires ready { AreReady words.now (schedule key.now) (round_count key.now) }
         requires none { self.old.used ≡ 0 }
         requires can { 256 < length bytes.old
@@ -479,14 +494,14 @@ impl<C: Count> Counter<C> {
             self.mask_shared(key, words, bytes);
             return;
         }
-        if !WIDE && bytes.len() <= 128 {
+        if !wide() && bytes.len() <= 128 {
             self.mask_eight(key, words, bytes);
             return;
         }
         self.mask_part(key, words, bytes);
     }
 
-    // How many of the remaining bytes `mask_sixteen` masks next: more than one run only before the counter's byte at `LOW` passes 255,
+    // How many of the remaining bytes `mask_run` masks next: more than one run only before the counter's byte at `LOW` passes 255,
     // and only where a branch may depend on that byte.
     fn next_run(&self, left: usize) -> usize
         ensures within { result ≤ left }
@@ -501,7 +516,7 @@ impl<C: Count> Counter<C> {
         let block = C::block(&self.first, self.block_count);
         let before = 256 - usize::from(block.bytes()[C::LOW]);
         let runs = (before / 16).min(8).min(left / 256);
-        if runs >= SHARED_PAY {
+        if runs > shared_pay() {
             return 256 * runs;
         }
         run_of(left)
@@ -516,9 +531,9 @@ impl<C: Count> Counter<C> {
         ensures { AdvancesFront C.up key.now self.old self.new bytes.old bytes.new result }
     {
         let mut done = 0;
-        'sixteens: while bytes.len() - done > SIXTEEN_PAY {
+        while bytes.len() - done > sixteen_pay() {
             let next = self.next_run(bytes.len() - done);
-            self.mask_sixteen(key, words, &mut bytes[done..done + next]);
+            self.mask_run(key, words, &mut bytes[done..done + next]);
             done += next;
         }
         done
@@ -558,11 +573,11 @@ impl<C: Count> Counter<C> {
         requires { self.old.used ≡ 0 }
         ensures { AdvancesFront C.up key.now self.old self.new bytes.old bytes.new result }
     {
-        if bytes.len() <= FOUR_PAY {
+        if bytes.len() <= four_pay() {
             return 0;
         }
         let mut done = 0;
-        'fours: while bytes.len() - done > FOUR_PAY {
+        while bytes.len() - done > four_pay() {
             let next = (bytes.len() - done).min(64);
             self.mask_four(key, &mut bytes[done..done + next]);
             done += next;
@@ -582,10 +597,10 @@ impl<C: Count> Counter<C> {
         ensures { AdvancesFront C.up key.now self.old self.new bytes.old bytes.new result }
     {
         // A short text returns here, without the call: `apply_fours` would mask nothing.
-        if bytes.len() <= FOUR_PAY {
+        if bytes.len() <= four_pay() {
             return 0;
         }
-        if bytes.len() < PLANES_PAY {
+        if bytes.len() < planes_pay() {
             return self.apply_fours(key, bytes);
         }
         let done = self.apply_sixteens_by(key, planes, bytes);
@@ -602,12 +617,12 @@ impl<C: Count> Counter<C> {
         ensures { Advances C.up key.now self.old self.new bytes.old bytes.new }
     {
         let mut done = self.apply_runs(key, planes, bytes);
-        'pairs: while bytes.len() - done > 16 {
+        while bytes.len() - done > 16 {
             let next = (bytes.len() - done).min(32);
             self.mask_two(key, &mut bytes[done..done + next]);
             done += next;
         }
-        'singles: while done < bytes.len() {
+        while done < bytes.len() {
             let next = (bytes.len() - done).min(16);
             self.mask_block(key, &mut bytes[done..done + next]);
             done += next;

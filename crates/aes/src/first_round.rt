@@ -145,7 +145,6 @@ pub(crate) fn share_round(
         → slice_index (f n) i ≡ slice_index block.now i + (if i == place then n else 0))
         → Shares base.new columns.new (λ n. rounds (schedule key.now) 1 (f n)) count }
 {
-    key.is_key();
     let first_key = key.plain_key(0);
     let mut start = (u8x16::from_array(*block) ^ u8x16::from_array(first_key)).to_array();
     // The S-box without its constant takes 0 to 0.

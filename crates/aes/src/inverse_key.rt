@@ -32,7 +32,7 @@ impl InverseKey {
         let rounds = key.rounds();
         let mut keys = [[0; 16]; 15];
         keys[0] = key.plain_key(0);
-        'middle: for n in 1..rounds {
+        for n in 1..rounds {
             keys[n] = middle_key(u8x16::from_array(key.plain_key(n)));
         }
         keys[rounds] = key.plain_key(rounds);

@@ -18,7 +18,7 @@ use crate::key_planes::{KeyPlanes, RoundKeyPlanes, ready_planes, unpack};
 use crate::lanes::{self, Lanes, from_basis};
 use crate::planes::{self, BitPlanes, HalfPlanes, Planes, both_halves, lower, upper};
 use crate::schedule::expand;
-use octets::{Block, Fault, Key16, Key24, Key32, WIDE};
+use octets::{Block, Fault, Key16, Key24, Key32, wide};
 use std::marker::Model;
 use std::simd::prelude::*;
 use std::simd::{u8x16, u8x32, u8x64};
@@ -145,7 +145,6 @@ impl AesKey {
         ensures some { 0 < result }
         ensures few { result < 15 }
     {
-        self.is_key();
         self.size + 6
     }
 
@@ -153,8 +152,9 @@ impl AesKey {
     #[inline(always)]
     pub(crate) fn plain_key(&self, n: usize) -> [u8; 16]
         requires { n < 15 }
-        ensures { n ≤ round_count self.now
+        ensures bytes { n ≤ round_count self.now
             → (i : ℕ) → i < 16 → slice_index result i ≡ word_byte (schedule self.now) n i }
+        ensures is_key { IsKey self.now }
     {
         let key = u8x16::from_array(self.keys[n]);
         if n == 0 {
@@ -173,7 +173,6 @@ impl AesKey {
         ensures { n ≤ round_count self.now
             → (c : ℕ) → c < 4 → get_or (columns_of result) c [] ≡ get_or (schedule self.now) (4 * n + c) [] }
     {
-        self.is_key();
         load(&self.plain_key(n))
     }
 
@@ -199,8 +198,9 @@ impl AesKey {
     // Encrypts one, two or four blocks in the lanes of a vector.
     #[inline(always)]
     fn encrypt_lanes<V: Lanes>(&self, blocks: V) -> V
-        ensures { (f : ℕ → List ℕ) → ((q : ℕ) → IsBlock (f q)) → HoldsBlocks V.count (V.lanes blocks) f
+        ensures value { (f : ℕ → List ℕ) → ((q : ℕ) → IsBlock (f q)) → HoldsBlocks V.count (V.lanes blocks) f
             → HoldsBlocks V.count (V.lanes result) (λ q. cipher self.now (f q)) }
+        ensures is_key { IsKey self.now }
     {
         let count = self.size + 6;
         let mut state = lanes::first(blocks, self.keys[0]);
@@ -218,7 +218,6 @@ impl AesKey {
         ensures is_block { IsBlock result }
         ensures is_key { IsKey self.now }
     {
-        self.is_key();
         Block::new(
             self.encrypt_lanes(u8x16::from_array(*block.bytes()))
                 .to_array(),
@@ -229,7 +228,6 @@ impl AesKey {
     pub fn encrypt_two(&self, blocks: &[u8; 32]) -> [u8; 32]
         ensures { (q : ℕ) → q < 2 → block_at result q ≡ cipher self.now (block_at blocks.now q) }
     {
-        self.is_key();
         self.encrypt_lanes(u8x32::from_array(*blocks)).to_array()
     }
 
@@ -237,7 +235,6 @@ impl AesKey {
     pub fn encrypt_four(&self, blocks: &[u8; 64]) -> [u8; 64]
         ensures { (q : ℕ) → q < 4 → block_at result q ≡ cipher self.now (block_at blocks.now q) }
     {
-        self.is_key();
         self.encrypt_lanes(u8x64::from_array(*blocks)).to_array()
     }
 
@@ -262,10 +259,11 @@ impl AesKey {
     fn encrypt_half(&self, keys: &[KeyPlanes; 15], planes: &mut HalfPlanes, from: usize)
         requires ready { AreReady keys.now (schedule self.now) (round_count self.now) }
         requires few { from < 2 }
-        ensures { (f : ℕ → List ℕ) → ((q : ℕ) → IsBlock (f q))
+        ensures value { (f : ℕ → List ℕ) → ((q : ℕ) → IsBlock (f q))
             → HoldsEight planes.old (λ q. rounds (schedule self.now) from (f q))
             → HoldsLanes 16 planes.new
             (λ l k. slice_index (cipher self.now (f (l / 16 * 8 + k))) (l % 16)) }
+        ensures is_key { IsKey self.now }
     {
         let count = self.size + 6;
         let mut state = *planes;
@@ -281,9 +279,10 @@ impl AesKey {
     fn encrypt_whole(&self, keys: &[KeyPlanes; 15], start: Planes, from: usize) -> Planes
         requires ready { AreReady keys.now (schedule self.now) (round_count self.now) }
         requires few { from < 2 }
-        ensures { (f : ℕ → List ℕ) → ((q : ℕ) → IsBlock (f q))
+        ensures value { (f : ℕ → List ℕ) → ((q : ℕ) → IsBlock (f q))
             → HoldsSixteen start (λ q. rounds (schedule self.now) from (f q))
             → HoldsBits result (λ l k. slice_index (cipher self.now (f (l / 16 * 8 + k))) (l % 16)) }
+        ensures is_key { IsKey self.now }
     {
         let count = self.size + 6;
         let mut state = start;
@@ -305,11 +304,12 @@ impl AesKey {
     ) -> Planes
         requires ready { AreReady keys.now (schedule self.now) (round_count self.now) }
         requires few { from < 2 }
-        ensures { (f : ℕ → List ℕ) → ((q : ℕ) → IsBlock (f q))
+        ensures value { (f : ℕ → List ℕ) → ((q : ℕ) → IsBlock (f q))
             → HoldsSixteen start (λ q. rounds (schedule self.now) from (f q))
             → HoldsBits result (λ l k. slice_index (cipher self.now (f (l / 16 * 8 + k))) (l % 16)) }
+        ensures is_key { IsKey self.now }
     {
-        if WIDE {
+        if wide() {
             return self.encrypt_whole(keys, start, from);
         }
         let mut first = lower(start);
@@ -336,7 +336,6 @@ impl AesKey {
             × ((q : ℕ) → q < 4 → block_at result.2 q ≡ cipher self.now (f (8 + q)))
             × ((q : ℕ) → q < 4 → block_at result.3 q ≡ cipher self.now (f (12 + q))) }
     {
-        self.is_key();
         let (first, second, third, fourth) = planes::store(self.encrypt_planes(keys, start, from));
         (
             first.to_array(),
@@ -358,7 +357,6 @@ impl AesKey {
             → ((q : ℕ) → q < 4 → block_at result.0 q ≡ cipher self.now (f q))
             × ((q : ℕ) → q < 4 → block_at result.1 q ≡ cipher self.now (f (4 + q))) }
     {
-        self.is_key();
         let mut half = lower(self.add_first_key(keys, start));
         self.encrypt_half(keys, &mut half, 0);
         // The other lanes are not used, so LLVM leaves out the steps that store them.
@@ -380,12 +378,5 @@ impl AesKey {
         ensures is_block { IsBlock result }
     {
         self.inverse().decrypt(block)
-    }
-
-    // A law for the caller's proof: the key has 16, 24 or 32 bytes. The call does nothing.
-    pub(crate) fn is_key(&self)
-        ensures { IsKey self.now }
-    {
-        let _size = self.size;
     }
 }

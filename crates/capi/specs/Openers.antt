@@ -26,7 +26,7 @@ NotIn kind p = (suite : Suite) → p.mark ≢ kind + suite_number suite
 
 -- the struct of zeros
 abbrev pub zeros : StoredOpener
-zeros = record { mark = 0; keys = zero_keys; state = zero_passes }
+zeros = record { mark = 0; keys = zero_keys; reserved = 0; state = zero_passes }
 
 -- p has the keys of a message and is in the first pass of opening a ciphertext under this tag, and has taken in these bytes of the
 -- ciphertext

@@ -20,7 +20,7 @@ NotBegun p = (suite : Suite) → is_one_pass (construction_of suite) ≡ true �
 
 -- the struct of zeros
 abbrev pub zeros : StoredSealer
-zeros = record { mark = 0; keys = zero_keys; state = zero_state }
+zeros = record { mark = 0; keys = zero_keys; reserved = 0; state = zero_state }
 
 -- p has the keys of a message in one reading, and has taken in this text
 pub record HoldsText (p : StoredSealer) (s : Setting) (text : List ℕ) : Type 0 where

@@ -27,7 +27,7 @@ NotIn kind p = (suite : Suite) → construction_of suite ≡ ByGcmSiv → p.mark
 
 -- the struct of zeros
 abbrev pub zeros : StoredSiv
-zeros = record { mark = 0; keys = zero_keys; state = zero_passes }
+zeros = record { mark = 0; keys = zero_keys; reserved = 0; state = zero_passes }
 
 -- p has the keys of a message of AES-GCM-SIV and is in the first reading, and has taken in this text
 pub record HoldsAbsorbing (p : StoredSiv) (s : Setting) (text : List ℕ) : Type 0 where

@@ -32,6 +32,8 @@ pub struct StoredOpener {
     // The mark of an opening in one of its passes, under a suite; any other number if no opening is begun.
     mark: u64,
     pub(crate) keys: KeyAndNonce,
+    // The bytes between the nonce and the numbers, so that no byte of the struct is left out of what is promised.
+    reserved: u32,
     pub(crate) state: TwoPassState,
 }
 
@@ -43,6 +45,7 @@ impl StoredOpener {
         StoredOpener {
             mark: 0,
             keys: KeyAndNonce::zeros(),
+            reserved: 0,
             state: TwoPassState::zeros(),
         }
     }
@@ -203,7 +206,6 @@ pub extern "C" fn aeadkit_opener_finish(opener: &mut StoredOpener) -> u32
 pub extern "C" fn aeadkit_opener_wipe(opener: &mut StoredOpener)
     ensures { opener.new ≡ zeros }
 {
-    // As a whole, so that the bytes between the fields are zeros too.
     let none = StoredOpener::zeros();
     *opener = none;
 }

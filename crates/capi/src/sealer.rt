@@ -25,6 +25,8 @@ pub struct StoredSealer {
     // The mark of a sealing under a suite; any other number if no sealing is begun.
     mark: u64,
     pub(crate) keys: KeyAndNonce,
+    // The bytes between the nonce and the numbers, so that no byte of the struct is left out of what is promised.
+    reserved: u32,
     pub(crate) state: PassState,
 }
 
@@ -36,6 +38,7 @@ impl StoredSealer {
         StoredSealer {
             mark: 0,
             keys: KeyAndNonce::zeros(),
+            reserved: 0,
             state: PassState::zeros(),
         }
     }
@@ -145,7 +148,6 @@ pub extern "C" fn aeadkit_sealer_finish(sealer: &mut StoredSealer, tag: &mut [u8
 pub extern "C" fn aeadkit_sealer_wipe(sealer: &mut StoredSealer)
     ensures { sealer.new ≡ zeros }
 {
-    // As a whole, so that the bytes between the fields are zeros too.
     let none = StoredSealer::zeros();
     *sealer = none;
 }

@@ -31,6 +31,8 @@ pub struct StoredSiv {
     // The mark of a sealing in one of its readings, under a suite; any other number if no sealing is begun.
     mark: u64,
     pub(crate) keys: KeyAndNonce,
+    // The bytes between the nonce and the numbers, so that no byte of the struct is left out of what is promised.
+    reserved: u32,
     pub(crate) state: TwoPassState,
 }
 
@@ -42,6 +44,7 @@ impl StoredSiv {
         StoredSiv {
             mark: 0,
             keys: KeyAndNonce::zeros(),
+            reserved: 0,
             state: TwoPassState::zeros(),
         }
     }
@@ -190,7 +193,6 @@ pub extern "C" fn aeadkit_siv_finish(siv: &mut StoredSiv) -> u32
 pub extern "C" fn aeadkit_siv_wipe(siv: &mut StoredSiv)
     ensures { siv.new ≡ zeros }
 {
-    // As a whole, so that the bytes between the fields are zeros too.
     let none = StoredSiv::zeros();
     *siv = none;
 }

@@ -1,5 +1,5 @@
 -- Runs of whole blocks that are masked while a hash takes in the same text.
-use Rattle.std.proofs.Common.{◌≡◌, ℕ, ◌+◌, ◌-◌, ◌*◌, ◌/◌, ◌%◌, ◌≤◌, List, ◌++◌, length, take, drop}
+use Rattle.std.proofs.Common.{◌≡◌, ℕ, ◌+◌, ◌-◌, ◌*◌, ◌/◌, ◌%◌, ◌^◌, ◌≤◌, List, ◌++◌, length, take, drop}
 use Rattle.std.proofs.Common.{sym, ap, ap₂, subst, ◌∙◌, arith}
 use Rattle.std.proofs.Math.Seq.{take-add, take-append-add, drop-append-add}
 use Rattle.std.proofs.lemmas.List.{append_assoc, length-append, length-take-le, length-drop, take_at, drop_at, drop-drop}
@@ -14,6 +14,11 @@ use Rattle.chacha.proofs.Masking.{later, no_run}
 -- a hash with the bytes that it takes in next, whatever their address
 abbrev pub interleaved : {W : Type 0} → W → List ℕ → Interleaved W
 interleaved hash left = record { hash = hash; left = record { ref_ptr = (0, 0); now = left } }
+
+-- if the next run of s bytes is within a text whose blocks exist, its blocks exist
+pub next_exists : (n a s l : ℕ) → s % 64 ≡ 0 → a % 64 ≡ 0 → a + s ≤ l → n + l / 64 ≤ 2 ^ 32
+    → n + a / 64 + s / 64 ≤ 2 ^ 32
+next_exists n a s l whole begins room exist = omega (arith, whole, begins, room, exist)
 
 -- what holds of two lists holds of equal lists
 pub carried : (P : List ℕ → List ℕ → Type 0) (a b c d : List ℕ) → a ≡ c → b ≡ d → P a b → P c d

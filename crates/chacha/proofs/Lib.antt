@@ -5,6 +5,5 @@ mod SideBySide
 pub mod Lengths
 mod ByRows
 mod Halves
-mod Refusals
 mod InterleavedRuns
 mod Applied

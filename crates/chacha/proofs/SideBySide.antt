@@ -15,7 +15,7 @@ use Rattle.octets.specs.Bytes.{xor_bytes}
 use Rattle.octets.proofs.Xors.{length-xor_bytes}
 use Rattle.chacha.specs.Block.{add_xor_rotate, double_rounds, added, serialized, block_from, initial_state}
 use Rattle.chacha.specs.Block.{block}
-use Rattle.chacha.specs.Code.Lanes.{lane, HasBlocks}
+use Rattle.chacha.specs.Code.Lanes.{lane}
 use Rattle.chacha.proofs.Words.{serialized-append, four_bytes}
 use Rattle.chacha.proofs.Lengths.{length-serialized}
 
@@ -242,27 +242,6 @@ pub lane_block : (key nonce start x rounds : List ℕ) (n : ℕ) → start ≡ i
 unfolding block block_from
 lane_block key nonce start x rounds n begins is_rounds is_x =
     ap serialized (is_x ∙ ap (λ s. added s start) is_rounds ∙ ap (λ s. added (double_rounds 10 s) s) begins)
-
--- the counter of a lane does not wrap around within the text
-pub counter_now : (n a j k size : ℕ) → j < k → a % 64 ≡ 0 → a + 64 * k ≤ size → n + size / 64 ≤ 2 ^ 32
-    → (n + a / 64 + j) % 2 ^ 32 ≡ n + a / 64 + j
-counter_now n a j k size below begins room limit = omega (arith, below, begins, room, limit)
-
--- the counter of a lane in the next run of k lanes is larger by k
-pub counter_next : (n a j k : ℕ) → a % 64 ≡ 0 → ((n + a / 64 + j) % 2 ^ 32 + k) % 2 ^ 32
-    ≡ (n + (a + 64 * k) / 64 + j) % 2 ^ 32
-counter_next n a j k begins = omega (arith, begins)
-
--- if each lane begins with the initial state of its counter, k lanes have the blocks of the counters from n + a / 64 on
-pub lanes_have : (key nonce : List ℕ) (n a k size : ℕ) (start x : List (List ℕ)) → a % 64 ≡ 0 → a + 64 * k ≤ size
-    → n + size / 64 ≤ 2 ^ 32
-    → ((j : ℕ) → j < k → lane j start ≡ initial_state key ((n + a / 64 + j) % 2 ^ 32) nonce)
-    → ((j : ℕ) → j < k → (key nonce : List ℕ) (m : ℕ) → lane j start ≡ initial_state key m nonce
-    → serialized (lane j x) ≡ block key m nonce)
-    → HasBlocks k x key (n + a / 64) nonce
-lanes_have key nonce n a k size start x begins room limit starts made j l =
-    made j l key nonce ((n + a / 64 + j) % 2 ^ 32) (starts j l)
-    ∙ ap (λ (m : ℕ). block key m nonce) (counter_now n a j k size l begins room limit)
 
 -- item j of four numbers from c on is c + j
 pub four_counters : (c j : ℕ) → j < 4 → get_or (c ∷ (c + 1) ∷ (c + 2) ∷ (c + 3) ∷ []) j 0 ≡ c + j

@@ -13,7 +13,7 @@ ghost use Rattle.chacha.specs.Code.Halves.{half_quarter, half_columns, half_diag
 ghost use Rattle.chacha.specs.Stream.{key_stream_byte};
 
 use crate::state::initial_state;
-use octets::{Key32, Nonce, WIDE, Work, xor_into};
+use octets::{Key32, Nonce, Work, wide, xor_into};
 use std::simd::{Simd, u8x32, u32x4, u32x8};
 
 // The sums of the words, lane by lane.
@@ -101,7 +101,10 @@ pub(crate) fn half_diagonals<const N: usize>(x: &mut [Simd<u32, N>; 16], n: u32,
 // After the second half of a round a step of other work is done only if more steps than this are left. A run of four blocks has
 // 40 places for a step, and about 16 steps to do. If the first places took them all, they would fill the processor there and
 // leave it idle at the others. A run of eight blocks has 32 steps to do, and needs no reserve.
-pub(crate) const RESERVE: usize = if WIDE { 0 } else { 20 };
+#[inline(always)]
+pub(crate) fn reserve() -> usize {
+    if wide() { 0 } else { 20 }
+}
 
 // Ten double rounds in halves of rounds, with a step of other work after each half. The steps are done on a copy, which stays in
 // registers where a reference would not. A step is a branch, and so it keeps the halves of a round apart: in one basic block
@@ -116,11 +119,11 @@ fn ten_rounds<const N: usize, W: Work>(x: &mut [Simd<u32, N>; 16], work: &mut W)
         half_columns(x, 16, 12);
         own.step(0);
         half_columns(x, 8, 7);
-        own.step(RESERVE);
+        own.step(reserve());
         half_diagonals(x, 16, 12);
         own.step(0);
         half_diagonals(x, 8, 7);
-        own.step(RESERVE);
+        own.step(reserve());
     }
     *work = own;
 }
@@ -140,8 +143,8 @@ pub(crate) fn add<const N: usize>(x: &mut [Simd<u32, N>; 16], start: &[Simd<u32,
 pub(crate) fn set_starts<const N: usize>(
     x: &mut [Simd<u32, N>; 16],
     key: &Key32,
-    nonce: &Nonce,
     counters: Simd<u32, N>,
+    nonce: &Nonce,
 )
     ensures { (j : ℕ) → j < N
         → lane j x.new ≡ initial_state key.now (slice_index counters.entry j) nonce.now }
@@ -191,7 +194,7 @@ pub fn set_four_starts(start: &mut [u32x4; 16], key: &Key32, counter: u32, nonce
     requires { counter + 3 < 2 ^ 32 }
     ensures { HasStarts 4 start.new key.now counter nonce.now }
 {
-    set_starts(start, key, nonce, four_counters(counter));
+    set_starts(start, key, four_counters(counter), nonce);
 }
 
 /// Returns the words of four blocks at once (RFC 8439, 2.3): vector i has word i of each block, and lane j has the block with the
@@ -432,7 +435,7 @@ fn xor_eight_lanes(
 
 // XORs the words of eight lanes, serialized one lane after the other, into twice 256 bytes.
 #[inline(always)]
-fn xor_halves(x: &[u32x8; 16], front: &mut [u8], back: &mut [u8])
+pub(crate) fn xor_halves(x: &[u32x8; 16], front: &mut [u8], back: &mut [u8])
     requires front { length front.old ≡ 256 }
     requires back { length back.old ≡ 256 }
     ensures front { (key nonce : List ℕ) (counter : ℕ) → HasBlocks 8 x.now key counter nonce
@@ -460,83 +463,4 @@ pub(crate) fn xor_eight_serialized(x: &[u32x8; 16], bytes: &mut [u8])
 {
     let (front, back) = bytes.split_at_mut(256);
     xor_halves(x, front, back);
-}
-
-// XORs the key stream from a counter on into whole runs of 256 bytes, and does forty steps of other work in each. The
-// states from which blocks start are set once. It is a separate function, since its frame would slow down runs of eight
-// blocks.
-#[inline(never)]
-pub(crate) fn xor_fours<W: Work>(
-    key: &Key32,
-    counter: u32,
-    nonce: &Nonce,
-    bytes: &mut [u8],
-    work: &mut W,
-)
-    requires some { 256 ≤ length bytes.old }
-    requires whole { length bytes.old % 256 ≡ 0 }
-    requires counters { counter + length bytes.old / 64 ≤ 2 ^ 32 }
-    ensures masked { bytes.new ≡ masked (key_stream_byte key.now nonce.now counter) 0 bytes.old }
-    ensures work { (w : W) → W.reaches w work.old → W.reaches w work.new }
-{
-    let mut own = *work;
-    let mut start = [u32x4::splat(0); 16];
-    set_four_starts(&mut start, key, counter, nonce);
-    let mut done = 0;
-    'runs: while done < bytes.len() {
-        let x = four_blocks(&mut start, &mut own);
-        xor_serialized(&x, &mut bytes[done..done + 256]);
-        done += 256;
-    }
-    *work = own;
-}
-
-// XORs the key stream from a counter on into whole runs of 512 bytes, and does forty steps of other work in each.
-pub(crate) fn xor_eights<W: Work>(
-    key: &Key32,
-    counter: u32,
-    nonce: &Nonce,
-    bytes: &mut [u8],
-    work: &mut W,
-)
-    requires some { 512 ≤ length bytes.old }
-    requires whole { length bytes.old % 512 ≡ 0 }
-    requires counters { counter + length bytes.old / 64 ≤ 2 ^ 32 }
-    ensures masked { bytes.new ≡ masked (key_stream_byte key.now nonce.now counter) 0 bytes.old }
-    ensures work { (w : W) → W.reaches w work.old → W.reaches w work.new }
-{
-    let mut own = *work;
-    let mut start = [u32x8::splat(0); 16];
-    set_starts(&mut start, key, nonce, eight_counters(counter));
-    let mut done = 0;
-    'runs: while done < bytes.len() {
-        let x = next_blocks(&mut start, &mut own);
-        xor_eight_serialized(&x, &mut bytes[done..done + 512]);
-        done += 512;
-    }
-    *work = own;
-}
-
-// XORs the first 512 bytes of the key stream from a counter on into twice 256 bytes, and does forty steps of other work. It
-// is a separate function, since inlining it would slow down the other widths.
-#[inline(never)]
-pub(crate) fn xor_eight<W: Work>(
-    key: &Key32,
-    counter: u32,
-    nonce: &Nonce,
-    front: &mut [u8],
-    back: &mut [u8],
-    work: &mut W,
-)
-    requires counters { counter + 7 < 2 ^ 32 }
-    requires front { length front.old ≡ 256 }
-    requires back { length back.old ≡ 256 }
-    ensures front { front.new ≡ masked (key_stream_byte key.now nonce.now counter) 0 front.old }
-    ensures back { back.new ≡ masked (key_stream_byte key.now nonce.now (counter + 4)) 0 back.old }
-    ensures work { (w : W) → W.reaches w work.old → W.reaches w work.new }
-{
-    let mut start = [u32x8::splat(0); 16];
-    set_starts(&mut start, key, nonce, eight_counters(counter));
-    let x = next_blocks(&mut start, work);
-    xor_halves(&x, front, back);
 }

@@ -1,28 +1,24 @@
 //! One block of ChaCha20 by rows beside four in lanes (RFC 8439, 2.3): the instructions of a row fit into idle slots
 //! of the lanes.
 
-ghost use Rattle.std.specs.Prelude.{◌≡◌, ℕ, ◌+◌, ◌^◌, ◌<◌, List, length, slice_index};
+ghost use Rattle.std.specs.Prelude.{◌≡◌, ℕ, ◌+◌, ◌^◌, ◌<◌, length};
 ghost use Rattle.octets.specs.Masked.{masked};
-ghost use Rattle.chacha.specs.Block.{double_rounds, serialized, block};
+ghost use Rattle.chacha.specs.Block.{double_rounds};
 ghost use Rattle.chacha.specs.Code.Lanes.{lane};
 ghost use Rattle.chacha.specs.Code.Rows.{state_in};
 ghost use Rattle.chacha.specs.Stream.{key_stream_byte};
 
 use crate::lanes::{
-    RESERVE, add, four_counters, half_columns, half_diagonals, set_starts, xor_serialized,
+    add, four_counters, half_columns, half_diagonals, reserve, set_starts, xor_serialized,
 };
 use crate::rows::Rows;
 use octets::{Key32, Nonce, Work, xor_into};
-use std::simd::{Simd, u32x4};
+use std::simd::u32x4;
 
-// Ten double rounds of the lanes, and of the rows beside them, with a step of other work after each half.
+// Ten double rounds of the lanes, and of the row beside them, with a place for a step of other work after each half.
 #[inline(always)]
-fn ten_rounds<const N: usize, W: Work>(
-    x: &mut [Simd<u32, N>; 16],
-    row: &mut [u32x4; 4],
-    work: &mut W,
-)
-    ensures lanes { (j : ℕ) → j < N → lane j x.new ≡ double_rounds 10 (lane j x.old) }
+fn ten_rounds<W: Work>(x: &mut [u32x4; 16], row: &mut [u32x4; 4], work: &mut W)
+    ensures lanes { (j : ℕ) → j < 4 → lane j x.new ≡ double_rounds 10 (lane j x.old) }
     ensures row { state_in row.new 0 ≡ double_rounds 10 (state_in row.old 0) }
     ensures work { (w : W) → W.reaches w work.old → W.reaches w work.new }
 {
@@ -33,45 +29,18 @@ fn ten_rounds<const N: usize, W: Work>(
         own.step(0);
         half_columns(x, 8, 7);
         row.half_columns(8, 7);
-        own.step(RESERVE);
+        own.step(reserve());
         half_diagonals(x, 16, 12);
         row.half_diagonals(16, 12);
         own.step(0);
         half_diagonals(x, 8, 7);
         row.half_diagonals(8, 7);
-        own.step(RESERVE);
+        own.step(reserve());
     }
     *work = own;
 }
 
-// Computes the words of one block in each lane, from the counter of the lane, and returns the block of `counter`, which is
-// computed beside them.
-#[inline(always)]
-fn set_blocks<const N: usize, W: Work>(
-    x: &mut [Simd<u32, N>; 16],
-    key: &Key32,
-    counter: u32,
-    counters: Simd<u32, N>,
-    nonce: &Nonce,
-    work: &mut W,
-) -> [u8; 64]
-    ensures lanes { (j : ℕ) → j < N
-        → serialized (lane j x.new) ≡ block key.now (slice_index counters.entry j) nonce.now }
-    ensures row { result ≡ block key.now counter nonce.now }
-    ensures work { (w : W) → W.reaches w work.old → W.reaches w work.new }
-{
-    set_starts(x, key, nonce, counters);
-    let start = *x;
-    let row_start = <[u32x4; 4]>::starts_at(key, counter, nonce);
-    let mut row = row_start;
-    ten_rounds(x, &mut row, work);
-    add(x, &start);
-    let mut out = [0; 64];
-    row.put_sums(&row_start, &mut out);
-    out
-}
-
-// XORs the first 320 bytes of the key stream from a counter on into `bytes`, and does forty steps of other work. It is a
+// XORs the first 320 bytes of the key stream from a counter on into `bytes`, and offers 40 places for steps of other work. It is a
 // separate function, since its frame would slow down runs of eight blocks.
 #[inline(never)]
 pub(crate) fn xor_five_blocks<W: Work>(
@@ -86,15 +55,15 @@ pub(crate) fn xor_five_blocks<W: Work>(
     ensures masked { bytes.new ≡ masked (key_stream_byte key.now nonce.now counter) 0 bytes.old }
     ensures work { (w : W) → W.reaches w work.old → W.reaches w work.new }
 {
-    let mut x = [u32x4::splat(0); 16];
-    let first = set_blocks(
-        &mut x,
-        key,
-        counter,
-        four_counters(counter + 1),
-        nonce,
-        work,
-    );
+    let mut start = [u32x4::splat(0); 16];
+    set_starts(&mut start, key, four_counters(counter + 1), nonce);
+    let row_start = <[u32x4; 4]>::starts_at(key, counter, nonce);
+    let mut x = start;
+    let mut row = row_start;
+    ten_rounds(&mut x, &mut row, work);
+    add(&mut x, &start);
+    let mut first = [0; 64];
+    row.put_sums(&row_start, &mut first);
     let (front, back) = bytes.split_at_mut(64);
     xor_into(front, &first);
     xor_serialized(&x, back);

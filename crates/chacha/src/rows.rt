@@ -12,7 +12,7 @@ ghost use Rattle.chacha.specs.Code.Rows.{four_from, read_by_rows, state_in, stat
 
 use crate::lanes::{bytes_of, bytes_of_eight, half_quarter, high_halves, low_halves, sum};
 use crate::state::initial_state;
-use octets::{Idle, Key32, Nonce, WIDE, Work};
+use octets::{Idle, Key32, Nonce, Work, wide};
 use std::simd::{u32x4, u32x8};
 
 // The states of blocks, side by side in four rows.
@@ -253,8 +253,8 @@ impl Rows for [u32x8; 4] {
     ghost long = { state_long };
 }
 
-// Writes the blocks of one set from a counter on, and does a step of other work in each round. A step is a branch, and it stands
-// between the halves of a round for the reason that `ten_rounds` of `lanes` gives.
+// Writes the blocks of one set from a counter on, and offers a place for a step of other work in each round. A step is a branch,
+// and it stands between the halves of a round for the reason that `ten_rounds` of `lanes` gives.
 #[inline(always)]
 fn put_set<R: Rows, W: Work>(key: &Key32, counter: u32, nonce: &Nonce, out: &mut [u8], work: &mut W)
     requires counters { counter + R.COUNT ≤ 2 ^ 32 }
@@ -277,8 +277,8 @@ fn put_set<R: Rows, W: Work>(key: &Key32, counter: u32, nonce: &Nonce, out: &mut
     x.put_sums(&start, out);
 }
 
-// Writes the blocks of two sets from a counter on, which are computed together, and does a step of other work in each
-// round. It is a separate function, since its frame would slow down its callers.
+// Writes the blocks of two sets from a counter on, which are computed together, and offers a place for a step of other work in
+// each round. It is a separate function, since its frame would slow down its callers.
 #[inline(never)]
 pub(crate) fn put_two_sets<R: Rows, W: Work>(
     key: &Key32,
@@ -315,8 +315,8 @@ pub(crate) fn put_two_sets<R: Rows, W: Work>(
     y.put_sums(&start_y, back);
 }
 
-// Writes the blocks of three sets from a counter on, which are computed together, and does a step of other work in each
-// round. It is a separate function, since its frame would slow down its callers.
+// Writes the blocks of three sets from a counter on, which are computed together, and offers a place for a step of other work in
+// each round. It is a separate function, since its frame would slow down its callers.
 #[inline(never)]
 pub(crate) fn put_three_sets<R: Rows, W: Work>(
     key: &Key32,
@@ -361,7 +361,7 @@ pub(crate) fn put_three_sets<R: Rows, W: Work>(
     z.put_sums(&start_z, back);
 }
 
-// Writes the two blocks from a counter on, with AVX2 by one set, and does twenty steps of other work.
+// Writes the two blocks from a counter on, with AVX2 by one set, and offers 20 places for steps of other work.
 #[inline(never)]
 pub(crate) fn put_two_blocks<W: Work>(
     key: &Key32,
@@ -375,7 +375,7 @@ pub(crate) fn put_two_blocks<W: Work>(
     ensures stream { IsKeyStream out.new key.now counter nonce.now }
     ensures work { (w : W) → W.reaches w work.old → W.reaches w work.new }
 {
-    if WIDE {
+    if wide() {
         put_set::<[u32x8; 4], W>(key, counter, nonce, out, work);
     } else {
         put_two_sets::<[u32x4; 4], W>(key, counter, nonce, out, work);

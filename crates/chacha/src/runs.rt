@@ -1,5 +1,5 @@
-//! Whole runs of blocks of ChaCha20 (RFC 8439, 2.4), interleaved with a hash of the same text: a sealing hashes the bytes after they
-//! are masked, an opening before.
+//! Whole runs of blocks of ChaCha20 (RFC 8439, 2.4), alone or interleaved with a hash of the same text: a sealing hashes the bytes
+//! after they are masked, an opening before.
 
 ghost use Rattle.std.specs.Prelude.{◌≡◌, ℕ, ◌+◌, ◌-◌, ◌/◌, ◌%◌, ◌^◌, ◌<◌, ◌≤◌, ◌++◌, [], List, length, take, drop};
 ghost use Rattle.octets.specs.Masked.{masked};
@@ -7,7 +7,8 @@ ghost use Rattle.chacha.specs.Code.Lanes.{HasBlocks, HasStarts, four_size, eight
 ghost use Rattle.chacha.specs.Stream.{key_stream_byte};
 
 use crate::lanes::{
-    eight_counters, four_counters, next_blocks, set_starts, xor_eight_serialized, xor_serialized,
+    eight_counters, four_blocks, next_blocks, set_four_starts, set_starts, xor_eight_serialized,
+    xor_halves, xor_serialized,
 };
 use octets::{BlockWork, Interleaved, Key32, Nonce, Work};
 use std::simd::{u32x4, u32x8};
@@ -30,9 +31,11 @@ pub(crate) trait Run: Copy {
         requires { counter + SIZE / 64 ≤ 2 ^ 32 }
         ensures { starts result key.now counter nonce.now };
 
-    // Returns the words of the blocks that start from these states, and does steps of other work at the same time. Afterwards
-    // the states are those of the next blocks.
+    // Returns the words of the blocks that start from these states, and offers places for steps of other work. Afterwards the
+    // states are those of the next blocks.
     fn next<W: Work>(&mut self, work: &mut W) -> Self
+        requires { (key : List ℕ) × ((nonce : List ℕ) × ((counter : ℕ)
+            × ((counter + SIZE / 64 ≤ 2 ^ 32) × starts self.old key counter nonce))) }
         ensures made { (key nonce : List ℕ) (counter : ℕ) → starts self.old key counter nonce
             → counter + SIZE / 64 ≤ 2 ^ 32 → blocks result key counter nonce }
         ensures next { (key nonce : List ℕ) (counter : ℕ) → starts self.old key counter nonce
@@ -63,13 +66,13 @@ impl Run for [u32x4; 16] {
     #[inline(always)]
     fn starts_at(key: &Key32, counter: u32, nonce: &Nonce) -> [u32x4; 16] {
         let mut start = [u32x4::splat(0); 16];
-        set_starts(&mut start, key, nonce, four_counters(counter));
+        set_four_starts(&mut start, key, counter, nonce);
         start
     }
 
     #[inline(always)]
     fn next<W: Work>(&mut self, work: &mut W) -> [u32x4; 16] {
-        next_blocks(self, work)
+        four_blocks(self, work)
     }
 
     #[inline(always)]
@@ -92,7 +95,7 @@ impl Run for [u32x8; 16] {
     #[inline(always)]
     fn starts_at(key: &Key32, counter: u32, nonce: &Nonce) -> [u32x8; 16] {
         let mut start = [u32x8::splat(0); 16];
-        set_starts(&mut start, key, nonce, eight_counters(counter));
+        set_starts(&mut start, key, eight_counters(counter), nonce);
         start
     }
 
@@ -105,6 +108,57 @@ impl Run for [u32x8; 16] {
     fn xor_serialized(&self, bytes: &mut [u8]) {
         xor_eight_serialized(self, bytes);
     }
+}
+
+// XORs the key stream from a counter on into bytes that are whole runs, and offers 40 places for steps of other work in each. The
+// states from which blocks start are set once. It is a separate function, since its frame would slow down the other forms.
+#[inline(never)]
+pub(crate) fn xor_runs<R: Run, W: Work>(
+    key: &Key32,
+    counter: u32,
+    nonce: &Nonce,
+    bytes: &mut [u8],
+    work: &mut W,
+)
+    requires some { R.SIZE ≤ length bytes.old }
+    requires whole { length bytes.old % R.SIZE ≡ 0 }
+    requires counters { counter + length bytes.old / 64 ≤ 2 ^ 32 }
+    ensures masked { bytes.new ≡ masked (key_stream_byte key.now nonce.now counter) 0 bytes.old }
+    ensures work { (w : W) → W.reaches w work.old → W.reaches w work.new }
+{
+    let size = R::SIZE;
+    let mut own = *work;
+    let mut start = R::starts_at(key, counter, nonce);
+    let mut done = 0;
+    'runs: while bytes.len() - done >= size {
+        let x = start.next(&mut own);
+        x.xor_serialized(&mut bytes[done..done + size]);
+        done += size;
+    }
+    *work = own;
+}
+
+// XORs the first 512 bytes of the key stream from a counter on into twice 256 bytes, and offers 40 places for steps of other
+// work. It is a separate function, since inlining it would slow down the other widths.
+#[inline(never)]
+pub(crate) fn xor_eight<W: Work>(
+    key: &Key32,
+    counter: u32,
+    nonce: &Nonce,
+    front: &mut [u8],
+    back: &mut [u8],
+    work: &mut W,
+)
+    requires counters { counter + 8 ≤ 2 ^ 32 }
+    requires front { length front.old ≡ 256 }
+    requires back { length back.old ≡ 256 }
+    ensures front { front.new ≡ masked (key_stream_byte key.now nonce.now counter) 0 front.old }
+    ensures back { back.new ≡ masked (key_stream_byte key.now nonce.now (counter + 4)) 0 back.old }
+    ensures work { (w : W) → W.reaches w work.old → W.reaches w work.new }
+{
+    let mut start = <[u32x8; 16]>::starts_at(key, counter, nonce);
+    let x = start.next(work);
+    xor_halves(&x, front, back);
 }
 
 // XORs the key stream from a counter on into all whole runs of the bytes after the first `begun`. `hash` takes in the bytes from

@@ -1,11 +1,12 @@
 //! The first blocks of a key stream (RFC 8439, 2.4), computed at once: a type for each number of blocks.
 
-ghost use Rattle.std.specs.Prelude.{◌≡◌, ◌%◌, ◌<◌, ◌≤◌, ℕ, List, length, replicate, slice_index};
+ghost use Rattle.std.specs.Prelude.{◌≡◌, ◌+◌, ◌%◌, ◌^◌, ◌<◌, ◌≤◌, ℕ, List, length, replicate, slice_index};
 ghost use Rattle.chacha.specs.Stream.{key_stream_byte};
 
+use crate::row_beside::xor_five_blocks;
 use crate::rows::{put_three_sets, put_two_blocks, put_two_sets};
-use crate::{lanes, row_beside};
-use octets::{Idle, Key32, Nonce, WIDE};
+use crate::runs::xor_runs;
+use octets::{Idle, Key32, Nonce, Work, wide};
 use std::simd::{u32x4, u32x8};
 
 /// The first blocks of a key stream, from counter 0 on (RFC 8439, 2.4).
@@ -21,9 +22,21 @@ pub trait KeyStreamStart: Drop + Sized {
     /// Computes the first blocks of the key stream, in place, since blocks that are returned are copied. As for
     /// [`crate::ChaStream::new`], a nonce must never be used twice under one key. AEAD_CHACHA20_POLY1305 takes its one-time key
     /// from the first 32 bytes (2.6), which must not mask a text.
+    #[inline(always)]
     fn set(&mut self, key: &Key32, nonce: &Nonce)
         ensures { (i : ℕ) → i < length (bytes self.new)
-            → slice_index (bytes self.new) i ≡ key_stream_byte key.now nonce.now 0 i };
+            → slice_index (bytes self.new) i ≡ key_stream_byte key.now nonce.now 0 i }
+    {
+        self.set_from(key, 0, nonce, &mut Idle::new());
+    }
+
+    /// Computes the blocks from a counter on in place of the first ones, and offers places for steps of other work. The caller shows
+    /// that eight blocks from this counter on exist.
+    fn set_from<W: Work>(&mut self, key: &Key32, counter: u32, nonce: &Nonce, work: &mut W)
+        requires { counter + 8 ≤ 2 ^ 32 }
+        ensures stream { (i : ℕ) → i < length (bytes self.new)
+            → slice_index (bytes self.new) i ≡ key_stream_byte key.now nonce.now counter i }
+        ensures work { (w : W) → W.reaches w work.old → W.reaches w work.new };
 
     /// Returns the bytes of the blocks: 64 for each of two to eight.
     fn blocks(&self) -> &[u8]
@@ -47,8 +60,8 @@ impl KeyStreamStart for TwoBlocks {
     }
 
     #[inline(always)]
-    fn set(&mut self, key: &Key32, nonce: &Nonce) {
-        put_two_blocks(key, 0, nonce, &mut self.bytes, &mut Idle::new());
+    fn set_from<W: Work>(&mut self, key: &Key32, counter: u32, nonce: &Nonce, work: &mut W) {
+        put_two_blocks(key, counter, nonce, &mut self.bytes, work);
     }
 
     fn blocks(&self) -> &[u8] {
@@ -70,8 +83,8 @@ impl KeyStreamStart for ThreeBlocks {
     }
 
     #[inline(always)]
-    fn set(&mut self, key: &Key32, nonce: &Nonce) {
-        put_three_sets::<[u32x4; 4], Idle>(key, 0, nonce, &mut self.bytes, &mut Idle::new());
+    fn set_from<W: Work>(&mut self, key: &Key32, counter: u32, nonce: &Nonce, work: &mut W) {
+        put_three_sets::<[u32x4; 4], W>(key, counter, nonce, &mut self.bytes, work);
     }
 
     fn blocks(&self) -> &[u8] {
@@ -93,12 +106,12 @@ impl KeyStreamStart for FourBlocks {
     }
 
     #[inline(always)]
-    fn set(&mut self, key: &Key32, nonce: &Nonce) {
-        if WIDE {
-            put_two_sets::<[u32x8; 4], Idle>(key, 0, nonce, &mut self.bytes, &mut Idle::new());
+    fn set_from<W: Work>(&mut self, key: &Key32, counter: u32, nonce: &Nonce, work: &mut W) {
+        if wide() {
+            put_two_sets::<[u32x8; 4], W>(key, counter, nonce, &mut self.bytes, work);
         } else {
             self.bytes = [0; 256];
-            lanes::xor_fours(key, 0, nonce, &mut self.bytes, &mut Idle::new());
+            xor_runs::<[u32x4; 16], W>(key, counter, nonce, &mut self.bytes, work);
         }
     }
 
@@ -121,9 +134,9 @@ impl KeyStreamStart for FiveBlocks {
     }
 
     #[inline(always)]
-    fn set(&mut self, key: &Key32, nonce: &Nonce) {
+    fn set_from<W: Work>(&mut self, key: &Key32, counter: u32, nonce: &Nonce, work: &mut W) {
         self.bytes = [0; 320];
-        row_beside::xor_five_blocks(key, 0, nonce, &mut self.bytes, &mut Idle::new());
+        xor_five_blocks(key, counter, nonce, &mut self.bytes, work);
     }
 
     fn blocks(&self) -> &[u8] {
@@ -145,8 +158,8 @@ impl KeyStreamStart for SixBlocks {
     }
 
     #[inline(always)]
-    fn set(&mut self, key: &Key32, nonce: &Nonce) {
-        put_three_sets::<[u32x8; 4], Idle>(key, 0, nonce, &mut self.bytes, &mut Idle::new());
+    fn set_from<W: Work>(&mut self, key: &Key32, counter: u32, nonce: &Nonce, work: &mut W) {
+        put_three_sets::<[u32x8; 4], W>(key, counter, nonce, &mut self.bytes, work);
     }
 
     fn blocks(&self) -> &[u8] {
@@ -168,9 +181,9 @@ impl KeyStreamStart for EightBlocks {
     }
 
     #[inline(always)]
-    fn set(&mut self, key: &Key32, nonce: &Nonce) {
+    fn set_from<W: Work>(&mut self, key: &Key32, counter: u32, nonce: &Nonce, work: &mut W) {
         self.bytes = [0; 512];
-        lanes::xor_eights(key, 0, nonce, &mut self.bytes, &mut Idle::new());
+        xor_runs::<[u32x8; 16], W>(key, counter, nonce, &mut self.bytes, work);
     }
 
     fn blocks(&self) -> &[u8] {

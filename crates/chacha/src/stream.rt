@@ -1,19 +1,20 @@
-//! The key stream of ChaCha20 (RFC 8439, 2.4), XORed into a text that comes in pieces. Each part of a piece takes the form of
-//! `lanes`, `row_beside` or `rows` that fits it.
+//! The key stream of ChaCha20 (RFC 8439, 2.4), XORed into a text that comes in pieces. Each part of a piece takes the form that
+//! `plan` chooses for its length.
 
-ghost use Rattle.std.specs.Prelude.{◌≡◌, ℕ, ◌+◌, ◌-◌, ◌*◌, ◌^◌, ◌<◌, ◌≤◌, ◌++◌, List, [], length, take, drop};
+ghost use Rattle.std.specs.Prelude.{◌≡◌, ℕ, ◌+◌, ◌-◌, ◌*◌, ◌/◌, ◌^◌, ◌<◌, ◌≤◌, ◌++◌, List, [], length, take, drop};
 ghost use Rattle.std.specs.Prelude.{min, MatchResult};
 ghost use Rattle.octets.specs.Bytes.{xor_bytes};
 ghost use Rattle.octets.specs.Masked.{masked};
 ghost use Rattle.chacha.specs.Stream.{key_stream_byte};
 
 use crate::interleaved::{hash_interleaved, mask_interleaved};
-use crate::plan::{
-    FOUR_AT_MOST, ONE_AT_MOST, SIX_AT_MOST, THREE_AT_MOST, TWO_AT_MOST, has_run_of_eight,
-    has_run_of_four,
+use crate::plan::{BlocksAtOnce, SIX_AT_MOST, has_run_of_eight, has_run_of_four, one_at_most};
+use crate::rows::block;
+use crate::runs::{xor_eight, xor_runs};
+use crate::start::{
+    EightBlocks, FiveBlocks, FourBlocks, KeyStreamStart, SixBlocks, ThreeBlocks, TwoBlocks,
 };
-use crate::{lanes, row_beside, rows};
-use octets::{BlockWork, Fault, Idle, Key32, Nonce, Stream, WIDE, Work, xor_into};
+use octets::{BlockWork, Fault, Idle, Key32, Nonce, Stream, Work, wide, xor_into};
 use std::simd::{u32x4, u32x8};
 
 // The length in bytes of the key stream from counter 0 on: 2^32 blocks of 64 bytes.
@@ -86,6 +87,9 @@ impl ChaStream {
         ensures begun { take begun bytes.new ≡ take begun bytes.old }
         ensures hashed { (k m : List ℕ) → W.comes_to hash.old [] k m
             → W.comes_to hash.new [] k (m ++ whole_blocks bytes.new) }
+        ensures refused { (key nonce : List ℕ) (first made : ℕ) → Holds self.old key nonce first made
+            → 2 ^ 38 < first * 64 + made + (length bytes.old - begun)
+            → (self.new ≡ self.old) × (bytes.new ≡ bytes.old) }
     {
         if (bytes.len() - begun) as u64 > END - self.offset {
             hash.take_all(&bytes[..bytes.len() / 16 * 16]);
@@ -102,6 +106,8 @@ impl ChaStream {
         ensures did { Did self.old self.new bytes.old bytes.new }
         ensures hashed { (k m : List ℕ) → W.comes_to hash.old [] k m
             → W.comes_to hash.new [] k (m ++ whole_blocks bytes.old) }
+        ensures refused { (key nonce : List ℕ) (first made : ℕ) → Holds self.old key nonce first made
+            → 2 ^ 38 < first * 64 + made + length bytes.old → (self.new ≡ self.old) × (bytes.new ≡ bytes.old) }
     {
         if self.offset + bytes.len() as u64 > END {
             hash.take_all(&bytes[..bytes.len() / 16 * 16]);
@@ -118,7 +124,11 @@ impl Stream for ChaStream {
     ghost did = { Did };
 
     fn apply_next(&mut self, bytes: &mut [u8]) {
-        let _ = self.apply(bytes);
+        // Within the limits of the suites the key stream does not end. No text leaves unmasked if it does.
+        match self.apply(bytes) {
+            Ok(()) => {}
+            Err(_) => bytes.fill(0),
+        }
     }
 }
 
@@ -161,56 +171,54 @@ fn xor_run<W: Work>(
     let skip = (offset % 64) as usize;
     if has_run_of_eight(skip, bytes.len()) {
         let whole = bytes.len() / 512 * 512;
-        lanes::xor_eights(key, counter, nonce, &mut bytes[..whole], work);
+        xor_runs::<[u32x8; 16], W>(key, counter, nonce, &mut bytes[..whole], work);
         return whole;
     }
     if has_run_of_four(skip, bytes.len()) {
         let whole = bytes.len() / 256 * 256;
-        lanes::xor_fours(key, counter, nonce, &mut bytes[..whole], work);
+        xor_runs::<[u32x4; 16], W>(key, counter, nonce, &mut bytes[..whole], work);
         return whole;
     }
-    if WIDE && skip == 0 && bytes.len() > SIX_AT_MOST && counter <= u32::MAX - 7 {
+    if wide() && skip == 0 && bytes.len() > SIX_AT_MOST && counter <= u32::MAX - 7 {
         let mut stream = [0; 256];
         let (front, back) = bytes.split_at_mut(256);
-        lanes::xor_eight(key, counter, nonce, front, &mut stream, work);
+        xor_eight(key, counter, nonce, front, &mut stream, work);
         return 256 + xor_part(&stream, 0, back);
     }
-    if WIDE && skip + bytes.len() > SIX_AT_MOST && counter <= u32::MAX - 7 {
-        let mut stream = [0; 512];
-        lanes::xor_eights(key, counter, nonce, &mut stream, work);
-        return xor_part(&stream, skip, bytes);
+    if skip + bytes.len() <= one_at_most() || counter > u32::MAX - 7 {
+        return xor_part(&block(key, counter, nonce), skip, bytes);
     }
-    if WIDE && skip + bytes.len() > FOUR_AT_MOST && counter <= u32::MAX - 5 {
-        let mut stream = [0; 384];
-        rows::put_three_sets::<[u32x8; 4], W>(key, counter, nonce, &mut stream, work);
-        return xor_part(&stream, skip, bytes);
+    match BlocksAtOnce::for_key_stream(skip + bytes.len()) {
+        BlocksAtOnce::Two => xor_blocks::<TwoBlocks, W>(key, nonce, offset, bytes, work),
+        BlocksAtOnce::Three => xor_blocks::<ThreeBlocks, W>(key, nonce, offset, bytes, work),
+        BlocksAtOnce::Four => xor_blocks::<FourBlocks, W>(key, nonce, offset, bytes, work),
+        BlocksAtOnce::Five => xor_blocks::<FiveBlocks, W>(key, nonce, offset, bytes, work),
+        BlocksAtOnce::Six => xor_blocks::<SixBlocks, W>(key, nonce, offset, bytes, work),
+        BlocksAtOnce::Eight => xor_blocks::<EightBlocks, W>(key, nonce, offset, bytes, work),
     }
-    if WIDE && skip + bytes.len() > TWO_AT_MOST && counter <= u32::MAX - 3 {
-        let mut stream = [0; 256];
-        rows::put_two_sets::<[u32x8; 4], W>(key, counter, nonce, &mut stream, work);
-        return xor_part(&stream, skip, bytes);
-    }
-    if skip + bytes.len() > FOUR_AT_MOST && counter <= u32::MAX - 4 {
-        let mut stream = [0; 320];
-        row_beside::xor_five_blocks(key, counter, nonce, &mut stream, work);
-        return xor_part(&stream, skip, bytes);
-    }
-    if skip + bytes.len() > THREE_AT_MOST && counter <= u32::MAX - 3 {
-        let mut stream = [0; 256];
-        lanes::xor_fours(key, counter, nonce, &mut stream, work);
-        return xor_part(&stream, skip, bytes);
-    }
-    if skip + bytes.len() > TWO_AT_MOST && counter <= u32::MAX - 2 {
-        let mut stream = [0; 192];
-        rows::put_three_sets::<[u32x4; 4], W>(key, counter, nonce, &mut stream, work);
-        return xor_part(&stream, skip, bytes);
-    }
-    if skip + bytes.len() > ONE_AT_MOST && counter <= u32::MAX - 1 {
-        let mut stream = [0; 128];
-        rows::put_two_blocks(key, counter, nonce, &mut stream, work);
-        return xor_part(&stream, skip, bytes);
-    }
-    xor_part(&rows::block(key, counter, nonce), skip, bytes)
+}
+
+// XORs the key stream from an offset on into the first bytes, by way of a buffer for the blocks from that of the offset on, and
+// returns the number of these bytes.
+#[inline(always)]
+fn xor_blocks<S: KeyStreamStart, W: Work>(
+    key: &Key32,
+    nonce: &Nonce,
+    offset: u64,
+    bytes: &mut [u8],
+    work: &mut W,
+) -> usize
+    requires some { 0 < length bytes.old }
+    requires counters { offset / 64 + 8 ≤ 2 ^ 32 }
+    ensures progress { 0 < result }
+    ensures in_range { result ≤ length bytes.old }
+    ensures masked { bytes.new ≡ masked (key_stream_byte key.now nonce.now 0) offset (take result bytes.old)
+        ++ drop result bytes.old }
+    ensures work { (w : W) → W.reaches w work.old → W.reaches w work.new }
+{
+    let mut stream = S::zeros();
+    stream.set_from(key, (offset / 64) as u32, nonce, work);
+    xor_part(stream.blocks(), (offset % 64) as usize, bytes)
 }
 
 // XORs the bytes of `stream` from offset `skip` on into the first bytes, and returns their number. It is a separate

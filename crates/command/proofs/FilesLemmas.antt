@@ -16,7 +16,8 @@ use Rattle.aead.specs.SealStream.{SealsStream, IfTextKnown}
 use Rattle.aead.specs.SealSivStream.{SealsSivStream, SivCounts, IfBothKnown}
 use Rattle.aead.specs.Verdict.{OpensStream, FailureCounts, IfAllKnown}
 use Rattle.command.specs.declared.failure.Failure.{Failure}
-use Rattle.command.specs.declared.failure.Failure.TheVariants.{Fault as OfFault}
+use Rattle.command.specs.declared.failure.Failure.TheVariants.{Words, Fault as OfFault}
+use Rattle.command.specs.declared.identity.Identity.{Identity}
 use Rattle.command.specs.declared.words.Inputs.{Inputs}
 use Rattle.command.specs.declared.words.FileRequest.{FileRequest}
 use Rattle.command.specs.declared.words.FileCommand.{FileCommand}
@@ -25,7 +26,9 @@ use Rattle.command.specs.Aead.{IsReady, IsCalled, CallFailed}
 use Rattle.command.specs.Files.{Answer, Giving, SealsOnce, SealsTwice, OpensThrice, SealingBy, Sealing, Engine}
 use Rattle.command.specs.Files.{HoldsAll, HoldsStart}
 use Rattle.command.specs.Code.Engines.{OutletTakes}
-use Rattle.command.specs.Files.{NoCall, FileDone, FileStopped, StopsLate, EngineOf, Wrote}
+use Rattle.command.specs.Files.{NoCall, FileDone, FileStopped, RefusesIfOne, RefusesOneFile, StopsLate}
+use Rattle.command.specs.Files.{EngineOf, Wrote}
+use Rattle.command.specs.Identities.{IsOneFile}
 use Rattle.command.specs.Code.Engines.{EngineRan, Ran}
 use Rattle.command.specs.NewFiles.{held}
 
@@ -227,7 +230,8 @@ pub exit_err : {O : Type 0} (command : FileCommand) (readings : ℕ → Option (
     (same same' : Type 0) (e : Failure) → (same → same')
     → Ran (Engine command readings) words taken (append_known (held blank contents file) pending) same (Err e)
     → FileStopped (Engine command readings) words taken (held taken contents file) same' e
-exit_err command readings words taken blank contents file pending same same' e to (inl h) = inl (h.0, to h.1)
+exit_err command readings words taken blank contents file pending same same' e to (inl h) =
+    inl (inr h.0, to h.1)
 exit_err command readings words taken blank contents file pending same same' e to (inr h) =
     let given : Option (List ℕ) = append_known (held blank contents file) pending in
     inr (record {
@@ -275,35 +279,80 @@ pub write_is_late : (command : FileCommand) (e : Failure) → e ≡ OfFault Writ
 write_is_late Seal e p = rw p (inr (inr (inr (inl refl))))
 write_is_late Open e p = rw p (inr (inr (inl refl)))
 
+-- a failed run of an engine is not a refusal with `Words`
+pub ran_err_not_words : (engine : Giving → Setting → Answer → Type 0) (words : Inputs)
+    (taken taken' : Option (List ℕ)) (same : Type 0) (e : Failure) (r : Result ℕ Failure) → r ≡ Err e
+    → Ran engine words taken taken' same (Err e) → ¬ (r ≡ Err Words)
+ran_err_not_words engine words taken taken' same e r is (inl h) p =
+    let q : e ≡ Words = (cc) in
+    let P : Failure → Type 0 = λ f. NoCall words f in
+    elim (subst P q h.0) [ inl x ↦ absurd x | inr x ↦ let w : Words ≡ OfFault Read = x.0 in absurd (cc) ]
+ran_err_not_words engine words taken taken' same e r is (inr h) p =
+    let q : e ≡ OfFault h.fault = h.is in absurd (cc)
+
+-- what is refused of the files that were compared, is refused of those that the paths are known to lead to
+pub refuses : (a b : Option (Option Identity)) (one other : Option Identity) (r : Result ℕ Failure)
+    → IfSome a (λ known. one ≡ known) → IfSome b (λ known. other ≡ known) → RefusesIfOne r one other
+    → IfSome a (λ x. IfSome b (λ y. RefusesIfOne r x y))
+refuses None b one other r p q h = tt
+refuses (Some x) None one other r p q h = tt
+refuses (Some x) (Some y) one other r p q h =
+    let P : Option Identity → Type 0 = λ z. RefusesIfOne r z other in
+    let Q : Option Identity → Type 0 = λ z. RefusesIfOne r x z in
+    subst Q q (subst P p h)
+
+-- of two files a failure that is not `Words` says nothing
+pub refuses_two : (one other : Option Identity) (r : Result ℕ Failure) → ¬ IsOneFile one other
+    → ¬ (r ≡ Err Words) → RefusesIfOne r one other
+refuses_two one other r two not = (λ is. absurd (two is), λ e. absurd (not e))
+
+-- a lack of memory may come before the files are compared
+refuses_none : (a b : Option (Option Identity)) (r : Result ℕ Failure) → r ≡ Err (OfFault OutOfMemory)
+    → IfSome a (λ x. IfSome b (λ y. RefusesIfOne r x y))
+refuses_none None b r e = tt
+refuses_none (Some x) None r e = tt
+refuses_none (Some x) (Some y) r e = (λ is. inr e, λ p. absurd (cc))
+
 -- a request that ran out of memory before its file was made
-pub unwritten : {O : Type 0} (contents : List ℕ → ℕ → Option (List ℕ)) (blank : List ℕ → Option (List ℕ))
+pub unwritten : {O : Type 0} (leads_to : List ℕ → Option (Option Identity))
+    (contents : List ℕ → ℕ → Option (List ℕ)) (blank : List ℕ → Option (List ℕ))
     (taken : O → Option (List ℕ)) (request : FileRequest) (r : Result ℕ Failure)
-    → r ≡ Err (OfFault OutOfMemory) → Wrote contents blank taken request r
-unwritten contents blank taken request r e = rw e (record {
+    → r ≡ Err (OfFault OutOfMemory) → Wrote leads_to contents blank taken request r
+unwritten leads_to contents blank taken request r e = rw e (record {
   file = None;
+  two_files = refuses_none (leads_to request.input.now) (leads_to request.output.now) _ refl;
   done = tt;
-  stopped = inl (inl tt, refl);
+  stopped = inl (inr (inl tt), refl);
   unmade = inr refl;
 })
 
 -- the result of a request whose file was not made before
-pub wrote : {O : Type 0} (contents : List ℕ → ℕ → Option (List ℕ)) (blank : List ℕ → Option (List ℕ))
+pub wrote : {O : Type 0} (leads_to : List ℕ → Option (Option Identity))
+    (contents : List ℕ → ℕ → Option (List ℕ)) (blank : List ℕ → Option (List ℕ))
     (taken : O → Option (List ℕ)) (request : FileRequest) (before : Option (List ℕ)) (file file' : Option O)
     (r : Result ℕ Failure) → before ≡ blank request.output.now → file ≡ None
     → MatchResult r
     (λ _. FileDone (EngineOf contents request) request.inputs before (held before taken file'))
     (FileStopped (EngineOf contents request) request.inputs before (held before taken file') (file' ≡ file))
     → IfOk r (λ _. is_some file' ≡ true) → IfOk r (λ status. status ≡ 0)
-    → IfErr r (λ e. StopsLate request.command e ⊎ (file' ≡ file)) → Wrote contents blank taken request r
-wrote contents blank taken request before file file' (Ok n) start unmade answer made status same =
+    → IfErr r (λ e. StopsLate request.command e ⊎ (file' ≡ file)) → RefusesOneFile leads_to request r
+    → Wrote leads_to contents blank taken request r
+wrote leads_to contents blank taken request before file file' (Ok n) start unmade answer made status same two =
     let P : Option (List ℕ) → Type 0 = λ b. FileDone (EngineOf contents request) request.inputs b
     (held b taken file') in
-    record { file = file'; done = (status, made, subst P start answer); stopped = tt; unmade = tt }
-wrote contents blank taken request before file file' (Err e) start unmade answer made status same =
+    record {
+      file = file';
+      two_files = two;
+      done = (status, made, subst P start answer);
+      stopped = tt;
+      unmade = tt;
+    }
+wrote leads_to contents blank taken request before file file' (Err e) start unmade answer made status same two =
     let P : Option (List ℕ) → Type 0 = λ b. FileStopped (EngineOf contents request) request.inputs b
     (held b taken file') (file' ≡ file) e in
     record {
       file = file';
+      two_files = two;
       done = tt;
       stopped = elim (subst P start answer) [ inl h ↦ inl (h.0, h.1 ∙ unmade) | inr h ↦ inr h ];
       unmade = elim same [ inl late ↦ inl late | inr p ↦ inr (p ∙ unmade) ];

@@ -5,6 +5,7 @@ use Rattle.std.specs.declared.result.Result.{Result}
 use Rattle.std.specs.Io.KnownBytes.{Appends}
 use Rattle.octets.specs.declared.fault.Fault.TheVariants.{OutOfMemory, Write}
 use Rattle.command.specs.declared.failure.Failure.{Failure}
+use Rattle.command.specs.declared.identity.Identity.{Identity}
 use Rattle.command.specs.declared.failure.Failure.TheVariants.{Words as OfWords, Fault as OfFault}
 use Rattle.command.specs.declared.words.PrintRequest.{PrintRequest}
 use Rattle.command.specs.declared.words.PrintRequest.TheVariants.{Wrap, Unwrap, Seal, Open, Check}
@@ -74,16 +75,18 @@ IsRefusedAs Version before after result =
 IsRefusedAs Words before after result = (result ≡ Err OfWords) × (after ≡ before)
 IsRefusedAs NoMemory before after result = (result ≡ Err (OfFault OutOfMemory)) × (after ≡ before)
 
--- what is printed for a request or a refusal, and the status or the failure. `contents` are the bytes that each file gives in
--- each reading, `blank` those that it holds once it is made, and `taken` those of an output. A file command prints nothing
-abbrev pub Answers : {O : Type 0} → (contents : List ℕ → ℕ → Option (List ℕ))
-    → (blank : List ℕ → Option (List ℕ)) → (taken : O → Option (List ℕ)) → (before after : Option (List ℕ))
+-- what is printed for a request or a refusal, and the status or the failure. `leads_to` are the identities of files, `contents`
+-- the bytes that each file gives in each reading, `blank` those that it holds once it is made, and `taken` those of an output. A
+-- file command prints nothing
+abbrev pub Answers : {O : Type 0} → (leads_to : List ℕ → Option (Option Identity))
+    → (contents : List ℕ → ℕ → Option (List ℕ)) → (blank : List ℕ → Option (List ℕ))
+    → (taken : O → Option (List ℕ)) → (before after : Option (List ℕ))
     → Result Request Refusal → Result ℕ Failure → Type 0
-Answers contents blank taken before after (Ok (Print request)) result =
+Answers leads_to contents blank taken before after (Ok (Print request)) result =
     MatchResult result (Answered contents before after request) (Stopped contents before after request)
-Answers contents blank taken before after (Ok (OfWrite request)) result =
-    (after ≡ before) × Wrote contents blank taken request result
-Answers contents blank taken before after (Err refusal) result = IsRefusedAs refusal before after result
+Answers leads_to contents blank taken before after (Ok (OfWrite request)) result =
+    (after ≡ before) × Wrote leads_to contents blank taken request result
+Answers leads_to contents blank taken before after (Err refusal) result = IsRefusedAs refusal before after result
 
 -- the status that the program ends with: 0 or 1, or that of a failure
 abbrev pub status_of : Result ℕ Failure → ℕ
@@ -100,19 +103,21 @@ NamesFailure before after result = MatchResult result (λ _. after ≡ before)
     (λ failure. AppendsBeginning before after (failure_line failure))
 
 -- what is printed on standard output and on standard error, and the status, if the words are read as this
-pub record Ends {O : Type 0} (contents : List ℕ → ℕ → Option (List ℕ)) (blank : List ℕ → Option (List ℕ))
+pub record Ends {O : Type 0} (leads_to : List ℕ → Option (Option Identity))
+    (contents : List ℕ → ℕ → Option (List ℕ)) (blank : List ℕ → Option (List ℕ))
     (taken : O → Option (List ℕ)) (before after err_before err_after : Option (List ℕ))
     (read : Result Request Refusal) (status : ℕ) : Type 0 where
   pub result : Result ℕ Failure
-  pub answers : Answers contents blank taken before after read result
+  pub answers : Answers leads_to contents blank taken before after read result
   pub named : NamesFailure err_before err_after result
   pub status_is : status ≡ status_of result
 
 -- what is printed, and the status, for words that are read as some request or refusal
-pub record Runs {O : Type 0} (contents : List ℕ → ℕ → Option (List ℕ)) (blank : List ℕ → Option (List ℕ))
+pub record Runs {O : Type 0} (leads_to : List ℕ → Option (Option Identity))
+    (contents : List ℕ → ℕ → Option (List ℕ)) (blank : List ℕ → Option (List ℕ))
     (taken : O → Option (List ℕ)) (before after err_before err_after : Option (List ℕ)) (status : ℕ)
     : Type 0 where
   pub read : Result Request Refusal
   -- a file is never written to the path that it is read from
   pub two_paths : IfOk read HasTwoPaths
-  pub ends : Ends contents blank taken before after err_before err_after read status
+  pub ends : Ends leads_to contents blank taken before after err_before err_after read status

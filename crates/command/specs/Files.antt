@@ -2,7 +2,7 @@
 use Rattle.std.specs.Prelude.{◌≡◌, ℕ, ◌⊎◌, Bool, true, false, List, ◌∷◌, ◌++◌, Option, Some, Result, Ok, Err}
 use Rattle.std.specs.Prelude.{IfSome, IfOk, IfErr, None, is_some, ⊤}
 use Rattle.octets.specs.declared.fault.Fault.{Fault}
-use Rattle.octets.specs.declared.fault.Fault.TheVariants.{Read, Write, TextTooLong}
+use Rattle.octets.specs.declared.fault.Fault.TheVariants.{Read, Write, TextTooLong, OutOfMemory}
 use Rattle.aead.specs.Refusals.{IsOneOf, late_in_readings}
 use Rattle.aead.specs.Suites.{construction_of, is_one_pass}
 use Rattle.aead.specs.Sealing.{Setting}
@@ -10,12 +10,14 @@ use Rattle.aead.specs.SealStream.{SealsStream}
 use Rattle.aead.specs.SealSivStream.{SealsSivStream, SivCounts}
 use Rattle.aead.specs.Verdict.{OpensStream, FailureCounts, IsBeginning}
 use Rattle.command.specs.declared.failure.Failure.{Failure}
-use Rattle.command.specs.declared.failure.Failure.TheVariants.{Fault as OfFault}
+use Rattle.command.specs.declared.failure.Failure.TheVariants.{Words, Fault as OfFault}
+use Rattle.command.specs.declared.identity.Identity.{Identity}
 use Rattle.command.specs.declared.words.Inputs.{Inputs}
 use Rattle.command.specs.declared.words.FileRequest.{FileRequest}
 use Rattle.command.specs.declared.words.FileCommand.{FileCommand}
 use Rattle.command.specs.declared.words.FileCommand.TheVariants.{Seal, Open}
 use Rattle.command.specs.Aead.{InputsRefused, IsCalled, CallFailed}
+use Rattle.command.specs.Identities.{IsOneFile}
 use Rattle.command.specs.NewFiles.{held}
 
 -- the result of an engine
@@ -84,14 +86,24 @@ NoCall words e = InputsRefused words e ⊎ ((e ≡ OfFault Read) × IsCalled wor
 abbrev pub FileDone : (Giving → Setting → Answer → Type 0) → Inputs → (taken held : Option (List ℕ)) → Type 0
 FileDone engine words taken held = IsCalled words (λ s body. engine (HoldsAll taken held) s (Ok tt))
 
--- a file command failed: no call was made and the file is unchanged, or the file holds a prefix of what the engine gave, which
--- returned this fault, or succeeded before the last write failed
+-- a file command failed: both paths lead to one file or no call was made, and the file is unchanged; or the file holds a prefix
+-- of what the engine gave, which returned this fault, or succeeded before the last write failed
 abbrev pub FileStopped : (Giving → Setting → Answer → Type 0) → Inputs → (taken held : Option (List ℕ))
     → (same : Type 0) → Failure → Type 0
 FileStopped engine words taken held same e =
-    (NoCall words e × same)
+    (((e ≡ Words) ⊎ NoCall words e) × same)
     ⊎ CallFailed (λ s body f. engine (HoldsStart taken held) s (Err f)
     ⊎ ((f ≡ Write) × engine (HoldsStart taken held) s (Ok tt))) words e
+
+-- one file is refused with `Words`, unless memory ran out, and two files are not
+abbrev pub RefusesIfOne : Result ℕ Failure → Option Identity → Option Identity → Type 0
+RefusesIfOne r a b = (IsOneFile a b → (r ≡ Err Words) ⊎ (r ≡ Err (OfFault OutOfMemory)))
+    × (r ≡ Err Words → IsOneFile a b)
+
+-- a request whose paths lead to one file is refused, if it is known what they lead to
+abbrev pub RefusesOneFile : (List ℕ → Option (Option Identity)) → FileRequest → Result ℕ Failure → Type 0
+RefusesOneFile leads_to request r = IfSome (leads_to request.input.now)
+    (λ a. IfSome (leads_to request.output.now) (λ b. RefusesIfOne r a b))
 
 -- the faults that a file command may return after some bytes were given
 abbrev pub late_faults : FileCommand → List Fault
@@ -107,12 +119,15 @@ StopsLate command _ = ⊥
 abbrev pub EngineOf : (List ℕ → ℕ → Option (List ℕ)) → FileRequest → Giving → Setting → Answer → Type 0
 EngineOf contents request = Engine request.command (contents request.input.now)
 
--- the result of a request that writes a file, and the file when it is closed. `contents` are the bytes that each file gives in
--- each reading, `blank` those that it holds once it is made, and `taken` those of an output
-pub record Wrote {O : Type 0} (contents : List ℕ → ℕ → Option (List ℕ)) (blank : List ℕ → Option (List ℕ))
+-- the result of a request that writes a file, and the file when it is closed. `leads_to` are the identities of files, `contents`
+-- the bytes that each file gives in each reading, `blank` those that it holds once it is made, and `taken` those of an output
+pub record Wrote {O : Type 0} (leads_to : List ℕ → Option (Option Identity))
+    (contents : List ℕ → ℕ → Option (List ℕ)) (blank : List ℕ → Option (List ℕ))
     (taken : O → Option (List ℕ)) (request : FileRequest) (r : Result ℕ Failure) : Type 0 where
   -- the output, if it was made
   pub file : Option O
+  -- with `Words` if both paths lead to one file; then it was not made, as `unmade` says
+  pub two_files : RefusesOneFile leads_to request r
   -- on `Ok` it was made, and holds all that the engine gave
   pub done : IfOk r (λ status. (status ≡ 0) × (is_some file ≡ true) × FileDone (EngineOf contents request)
       request.inputs (blank request.output.now) (held (blank request.output.now) taken file))

@@ -3,6 +3,7 @@ pub mod Answers
 pub mod Blames
 pub mod Files
 pub mod Hex
+pub mod Identities
 pub mod Keywrap
 pub mod Names
 pub mod NewFiles

@@ -13,8 +13,8 @@ use std::io::Read;
 #[derive(Drop)]
 pub struct FileIntake<R> {
     reader: R,
-    // How many bytes of that length have not been read yet. Without it, sealing a file onto another name of the
-    // file would end with status 0 and a part of the text.
+    // How many bytes of that length have not been read yet. Without it, sealing a file that is truncated meanwhile
+    // would end with status 0 and a part of the text.
     owed: u64,
     failures: Failures,
 }

@@ -7,12 +7,13 @@ ghost use Rattle.aead.specs.AnyCiphers.{one_pass_keyed, keyed_of};
 ghost use Rattle.command.specs.Blames.{InputMayFail, OutputMayFail, Blames};
 ghost use Rattle.command.specs.Files.{Sealing, Opening, Engine};
 ghost use Rattle.command.specs.Code.Engines.{EngineRan, Ran};
-ghost use Rattle.command.specs.Files.{FileDone, FileStopped, late_faults, StopsLate, EngineOf, Wrote};
+ghost use Rattle.command.specs.Files.{FileDone, FileStopped, RefusesOneFile, late_faults, StopsLate, EngineOf, Wrote};
 ghost use Rattle.command.specs.NewFiles.{held};
 ghost use Rattle.command.specs.declared.failure.Failure.TheVariants.{Fault as OfFault};
 
 use crate::commands::aead_inputs;
 use crate::failure::Failure;
+use crate::identity::is_one_file;
 use crate::new_file::NewFile;
 use crate::readings::reading;
 use crate::storage::Storage;
@@ -146,7 +147,8 @@ fn run_command<A: Allocator, F: Storage, O: Outlet>(
     )?)
 }
 
-// Runs a file command into a file that is not made before it is needed, and returns status 0.
+// Runs a file command into a file that is not made before it is needed, and returns status 0. `Words` if it would be made over
+// the file to read.
 fn write_file<'a, A: Allocator, B: Allocator, F: Storage>(
     alloc: &A,
     files: &F,
@@ -160,6 +162,7 @@ fn write_file<'a, A: Allocator, B: Allocator, F: Storage>(
         (held before F.Output.taken file.new.file))
         (FileStopped (EngineOf (F.contents files.now) words.now) words.now.inputs before
         (held before F.Output.taken file.new.file) (file.new.file ≡ file.old.file)) }
+    ensures two_files { RefusesOneFile (F.leads_to files.now) words.now result }
     ensures made { IfOk result (λ _. is_some file.new.file ≡ true) }
     ensures blame { Blames OfFault
         (InputMayFail (F.open_may_fail files.now words.now.input.now) F.Input.failures)
@@ -167,6 +170,9 @@ fn write_file<'a, A: Allocator, B: Allocator, F: Storage>(
     ensures untouched { IfErr result (λ e. StopsLate words.now.command e ⊎ (file.new.file ≡ file.old.file)) }
     ensures status { IfOk result (λ status. status ≡ 0) }
 {
+    if is_one_file(files.identity(words.input), files.identity(words.output)) {
+        return Err(Failure::Words);
+    }
     run_command(alloc, files, words, file)?;
     file.finish()?;
     Ok(0)
@@ -175,7 +181,8 @@ fn write_file<'a, A: Allocator, B: Allocator, F: Storage>(
 /// `seal-file` and `open-file`: seals or opens a file into another one, and returns status 0. The written file is
 /// closed when this returns.
 ///
-/// Faults, in this order: those of the inputs, `Read` if the file can't be opened, and those of the engine;
+/// Faults, in this order: `Words` if both paths lead to one file, as a link does, those of the inputs, `Read` if the file can't
+/// be opened, and those of the engine;
 /// `OutOfMemory` wherever an allocation fails. The engine's faults for sealing are `AadTooLong`, `TextTooLong` once more than
 /// the suite's limit was read, `Read`, `Write`, and for AES-GCM-SIV `SourceChanged`. For opening they are `AadTooLong`, then
 /// those of its three readings: nothing is written before authentication of a whole reading has succeeded.
@@ -188,8 +195,9 @@ pub fn write_new_file<A: Allocator, F: Storage>(
     files: &F,
     request: &FileRequest<'_>,
 ) -> Result<u8, Failure>
-    // On `Ok` the written file holds all that the engine gave; on `Err` it was not made, or holds a prefix of that.
-    ensures wrote { Wrote (F.contents files.now) (F.blank files.now) F.Output.taken request.now result }
+    // On `Ok` the written file holds all that the engine gave; on `Err` it was not made, or holds a prefix of that. If both paths
+    // lead to one file, the result is `Words`, and nothing was made.
+    ensures wrote { Wrote (F.leads_to files.now) (F.contents files.now) (F.blank files.now) F.Output.taken request.now result }
     // `Read` comes only if the input can fail, and `Write` only if the output can.
     ensures blame { Blames OfFault
         (InputMayFail (F.open_may_fail files.now request.now.input.now) F.Input.failures)

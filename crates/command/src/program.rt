@@ -191,7 +191,7 @@ fn answer<F: Storage, W: Write>(
     read: &Result<Request<'_>, Refusal>,
     out: &mut W,
 ) -> Result<u8, Failure>
-    ensures answers { Answers (F.contents files.now) (F.blank files.now) F.Output.taken
+    ensures answers { Answers (F.leads_to files.now) (F.contents files.now) (F.blank files.now) F.Output.taken
         (W.contents out.old) (W.contents out.new) read.now result }
     ensures status { IfOk result (λ status. status ≤ 1) }
 {
@@ -211,7 +211,7 @@ pub fn respond<F: Storage, W: Write, E: Write>(
     out: &mut W,
     err: &mut E,
 ) -> u8
-    ensures ends { Ends (F.contents files.now) (F.blank files.now) F.Output.taken
+    ensures ends { Ends (F.leads_to files.now) (F.contents files.now) (F.blank files.now) F.Output.taken
         (W.contents out.old) (W.contents out.new) (E.contents err.old) (E.contents err.new) read.now result }
     ensures bound { result ≤ 4 }
     // With status 0 nothing is printed on standard error.
@@ -235,7 +235,7 @@ pub fn run<S: AsStr, F: Storage, W: Write, E: Write>(
 ) -> u8
     // Standard output, standard error and the status are those of a request or a refusal that the words can be read as.
     // Which one that is, is left to `clap` and to tests.
-    ensures runs { Runs (F.contents files.now) (F.blank files.now) F.Output.taken
+    ensures runs { Runs (F.leads_to files.now) (F.contents files.now) (F.blank files.now) F.Output.taken
         (W.contents out.old) (W.contents out.new) (E.contents err.old) (E.contents err.new) result }
     ensures bound { result ≤ 4 }
     ensures quiet { result ≡ 0 → E.contents err.new ≡ E.contents err.old }

@@ -4,6 +4,7 @@ ghost use Rattle.std.specs.Io.KnownBytes.{Keeps};
 ghost use Rattle.std.specs.declared.option.Option.{Option};
 
 use crate::file_intake::{FileIntake, regular_length};
+use crate::identity::Identity;
 use octets::{Intake, Outlet, ToWrite};
 use std::alloc::Allocator;
 use std::fs::OpenFile;
@@ -16,6 +17,8 @@ const AHEAD: usize = 65536;
 
 /// A place for the files of the program.
 pub trait Storage {
+    ghost use Rattle.command.specs.declared.identity.Identity.{Identity};
+
     /// A file that is open for reading.
     type Input: Intake + Drop;
 
@@ -29,6 +32,9 @@ pub trait Storage {
     // The bytes that the file at a path holds just after it was made, if they are known.
     ghost blank: { Self → List ℕ → Option (List ℕ) } = { λ _ _. None };
 
+    // The identity of the file that a path leads to, if it is known. It is `None` if there is no file that can be compared.
+    ghost leads_to: { Self → List ℕ → Option (Option Identity) } = { λ _ _. None };
+
     // Whether opening a file for a reading may fail.
     ghost open_may_fail: { Self → List ℕ → ℕ → Bool } = { λ _ _ _. true };
 
@@ -41,6 +47,10 @@ pub trait Storage {
             IfSome (contents self.now path.now reading)
             (λ bytes. Self.Input.left input ≡ Some bytes)) }
         ensures blame { IfErr result (λ _. open_may_fail self.now path.now reading ≡ true) };
+
+    /// Returns the identity of the file that a path leads to, or `None` if there is no file that can be compared.
+    fn identity(&self, path: &str) -> Option<Identity>
+        ensures { IfSome (leads_to self.now path.now) (λ known. result ≡ known) };
 
     /// Creates a file, or truncates it.
     fn create(&self, path: &str) -> io::Result<Self::Output>
@@ -70,6 +80,14 @@ impl<R: Files, A: Allocator + Copy> Storage for Disk<'_, R, A> {
         let length = regular_length(&file);
         let reader = BufReader::with_capacity(self.alloc, AHEAD, file)?;
         Ok(FileIntake::new(reader, length))
+    }
+
+    // If the system doesn't say what a path leads to, there is no file yet, or opening it says why.
+    fn identity(&self, path: &str) -> Option<Identity> {
+        match fs::metadata(self.runtime, path) {
+            Ok(about) => Identity::of(&about),
+            Err(_) => None,
+        }
     }
 
     fn create(&self, path: &str) -> io::Result<ToWrite<R::File>> {

@@ -15,7 +15,7 @@ use Rattle.octets.proofs.Ring.{coefficient_sum}
 use Rattle.octets.proofs.Horner.{residue_same}
 use Rattle.gf128.specs.Ghash.{ghash_modulus}
 use Rattle.gf128.specs.Code.Words.{of_bits, of_word, products, folded_wide, looked_up, table_at, entry}
-use Rattle.gf128.specs.Code.Words.{placed, AreBytes, AreMultiples, IsReduced, IsWordProduct}
+use Rattle.gf128.specs.Code.Words.{placed, AreBytes, AreMultiples, AreTables, IsReduced, IsWordProduct}
 use Rattle.gf128.proofs.BitParts.{own_residue, residue_parts, x_same, reduced_same, word_product_is}
 use Rattle.gf128.proofs.Folds.{wide_folded_at}
 use Rattle.gf128.proofs.WordLemmas.{multiple_of_zero}
@@ -81,12 +81,13 @@ one_product h x =
     fun_ext (λ k. coefficient_sum p [] k ∙ plus_false (coefficient p k))
 
 -- what the look-ups by the bytes x give, moved to their places and reduced, is the product of their word and h
-pub looked_product : (h : ℕ) (high low : List (List ℕ)) (x : List ℕ) → IsBlock x → AreBytes high → AreBytes low
-    → AreMultiples (of_word h) (entry high) (entry low)
+pub looked_product : (h : ℕ) (high low : List (List ℕ)) (x : List ℕ) → IsBlock x → AreTables h high low
     → IsWordProduct (le x) (to_be_bytes w128 h)
     (folded_wide (placed (λ j. le (looked_up (table_at high j) (table_at low j) x)) 16))
 unfolding looked_up
-looked_product h high low x is sh sl all =
+looked_product h high low x is tables =
+    let sh = tables.high_bytes in
+    let sl = tables.low_bytes in
     let e : ℕ → ℕ → ℕ = λ (j p : ℕ). bit_xor (get_or (table_at high j) (get_or x p 0 / 16) 0) (get_or (table_at low j) (get_or x p 0 % 16) 0) in
     let l : List (ℕ × ℕ) = (le x, h) ∷ [] in
     let z : ℕ = folded_wide (placed (λ j. le (row (e j))) 16) in
@@ -94,7 +95,7 @@ looked_product h high low x is sh sl all =
     let n : ℕ = get_or x p 0 in
     let q : ℕ = le x / 2 ^ (8 * p) in
     let here : IsReduced (product (of_bits 8 n) (of_word h)) (le (row (λ j. e j p))) =
-    rw (looked_column high low n sh sl) (all n (is.bytes p)) in
+    rw (looked_column high low n sh sl) (tables.filled n (is.bytes p)) in
     last_product (product (of_bits 8 q) (of_word h)) (le (row (λ j. e j p)))
     (subst (λ (b : List Bool). IsReduced (product b (of_word h)) (le (row (λ j. e j p)))) (byte_in x p is) here) in
     word_product_is (le x) h z (reduced_same (products 128 l) (product (of_bits 128 (le x)) (of_word h)) z (one_product h (le x))
@@ -122,9 +123,16 @@ unfolding entry le
 zero_entry n l =
     ap (λ (f : ℕ → ℕ). le (row f)) (fun_ext (λ j. zero_byte j n))
 
--- tables of zeros hold the multiples of 0
-pub zero_multiples : AreMultiples (of_word 0) (entry (replicate 16 (replicate 16 0))) (entry (replicate 16 (replicate 16 0)))
+zero_multiples : AreMultiples (of_word 0) (entry (replicate 16 (replicate 16 0))) (entry (replicate 16 (replicate 16 0)))
 zero_multiples n l =
     let sum : bit_xor (entry (replicate 16 (replicate 16 0)) (n / 16)) (entry (replicate 16 (replicate 16 0)) (n % 16)) ≡ 0 =
     ap₂ bit_xor (zero_entry (n / 16) (omega arith)) (zero_entry (n % 16) (omega arith)) in
     subst (IsReduced (product (of_bits 8 n) (of_word 0))) (sym sum) (multiple_of_zero 8 n)
+
+-- tables of zeros are those of 0
+pub zero_tables : AreTables 0 (replicate 16 (replicate 16 0)) (replicate 16 (replicate 16 0))
+zero_tables = record {
+  high_bytes = λ j n. rw (zero_byte j n) (omega arith);
+  low_bytes = λ j n. rw (zero_byte j n) (omega arith);
+  filled = zero_multiples;
+}

@@ -3,16 +3,10 @@ use Rattle.std.proofs.Common.{ℕ, List, sym, subst}
 use Rattle.std.specs.Int.{w128, to_be_bytes}
 use Rattle.octets.specs.Bytes.{IsBlock, le}
 use Rattle.octets.specs.Polynomial.{power}
-use Rattle.gf128.specs.Code.Words.{of_word, entry, placed, looked_word, looked_four, folded_wide, AreBytes, AreMultiples}
+use Rattle.gf128.specs.Code.Words.{of_word, placed, looked_word, looked_four, folded_wide, AreTables}
 use Rattle.gf128.specs.Code.Words.{IsReduced, IsFourProducts}
 use Rattle.gf128.proofs.Entries.{looked_product}
 use Rattle.gf128.proofs.Powers.{four_placed, four_powers}
-
--- the tables of a word
-pub record AreTables (h : ℕ) (high : List (List ℕ)) (low : List (List ℕ)) : Type 0 where
-  pub high_bytes : AreBytes high
-  pub low_bytes : AreBytes low
-  pub filled : AreMultiples (of_word h) (entry high) (entry low)
 
 -- what the look-ups by four words give, moved to their places and reduced, is the sum of four products
 pub four_looked : (h s t u : ℕ) (high1 low1 high2 low2 high3 low3 high4 low4 : List (List ℕ)) (a b c d : List ℕ)
@@ -29,7 +23,7 @@ four_looked h s t u high1 low1 high2 low2 high3 low3 high4 low4 a b c d ha hb hc
     let product : (ℕ → ℕ) → ℕ = λ (f : ℕ → ℕ). folded_wide (placed f 16) in
     subst (IsFourProducts (le a) (le b) (le c) (le d) (to_be_bytes w128 h)) (sym (four_placed p q r v))
     (four_powers (le a) (le b) (le c) (le d) h s t u (product p) (product q) (product r) (product v) second third fourth
-    (looked_product u high4 low4 a ha t4.high_bytes t4.low_bytes t4.filled)
-    (looked_product t high3 low3 b hb t3.high_bytes t3.low_bytes t3.filled)
-    (looked_product s high2 low2 c hc t2.high_bytes t2.low_bytes t2.filled)
-    (looked_product h high1 low1 d hd t1.high_bytes t1.low_bytes t1.filled))
+    (looked_product u high4 low4 a ha t4)
+    (looked_product t high3 low3 b hb t3)
+    (looked_product s high2 low2 c hc t2)
+    (looked_product h high1 low1 d hd t1))

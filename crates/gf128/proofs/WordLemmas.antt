@@ -289,12 +289,6 @@ pub block_product : (f p : ℕ) (x y z : List ℕ) → of_word f ≡ g x → IsW
 unfolding IsProduct IsWordProduct
 block_product f p x y z ex is ez = rw (← ex, ez) is
 
--- a product of blocks is the product of the words with the same polynomials
-pub product_block : (f p : ℕ) (x y z : List ℕ) → g x ≡ of_word f → IsProduct x y z → of_word p ≡ g z
-    → IsWordProduct f y p
-unfolding IsProduct IsWordProduct
-product_block f p x y z ex is ez = rw (← ex, ez) is
-
 -- the coefficients of a product of words are those of the residue of the product
 pub word_product : (x z : ℕ) (y : List ℕ) → IsWordProduct x y z
     → coefficient (of_word z) ≡ coefficient (residue ghash_modulus (product (of_word x) (g y)))

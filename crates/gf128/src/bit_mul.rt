@@ -3,7 +3,7 @@
 ghost use Rattle.std.specs.Prelude.{◌≡◌, ℕ};
 ghost use Rattle.std.specs.Int.{w128, to_be_bytes};
 
-use crate::polynomial_word::{block_of, times_x, word_of};
+use crate::polynomial_word::{times_x, word_of};
 use crate::{Keyed128, Multiply};
 use octets::Block;
 
@@ -17,15 +17,14 @@ pub struct BitMul {
 impl Multiply for BitMul {
     ghost key_bytes = { λ s. to_be_bytes w128 s.key };
 
-    fn times(&self, x: &Block) -> Block {
-        let factor = word_of(x.bytes());
+    fn times_word(&self, x: u128) -> u128 {
         let key = self.key;
         let mut product = 0u128;
         // From the coefficient of x^127, the lowest bit, to that of x^0.
         'bits: for i in 0..128u32 {
-            product = times_x(product) ^ ((factor >> i) % 2 * key);
+            product = times_x(product) ^ ((x >> i) % 2 * key);
         }
-        block_of(product)
+        product
     }
 }
 

@@ -103,7 +103,7 @@ impl<M: Multiply, O: HashOrder> BlockHash<M, O> {
     pub fn sum(&self) -> u128
         ensures { (h m : List ℕ) → HashHolds O.order M.key_bytes self.now h m → IsSum O.order h m result }
     {
-        self.pieces.core().sum
+        self.pieces.core.sum
     }
 
     /// Returns the bytes of the text after its last whole block: fewer than 16.
@@ -147,7 +147,7 @@ impl<M: Multiply, O: HashOrder> BlockHash<M, O> {
             → result ≡ hash_by O.order h m }
         ensures is_block { IsBlock result }
     {
-        O::hash_of(self.pieces.core().sum)
+        O::hash_of(self.pieces.core.sum)
     }
 
     /// Returns the hash of the text, padded with zeros to whole blocks. Consumes the state.

@@ -6,7 +6,7 @@ ghost use Rattle.gf128.specs.Code.PlainMultiples.{ArePaired};
 ghost use Rattle.octets.specs.Bytes.{le};
 
 use crate::nibbles::NibblePairs;
-use crate::placed::PlacedPairs;
+use crate::placed::{Lanes, Parts, placed_sum};
 use crate::tables::PlainMultiples;
 use crate::word_bytes::WordBytes;
 use crate::word_pairs::WordPair;
@@ -49,25 +49,28 @@ impl PairTables {
     }
 }
 
-// What the tables of byte `j` of two pairs give for the bytes of four words.
-#[inline(always)]
-fn part_of_four(
-    upper: &PairTables,
-    lower: &PairTables,
+// What two pairs of tables give for each byte of four words.
+#[derive(Drop)]
+struct FourPaired<'a> {
+    upper: &'a PairTables,
+    lower: &'a PairTables,
     ab: NibblePairs,
     cd: NibblePairs,
-    j: usize,
-) -> WordPair
-    requires { j < 16 }
-    ensures { let u = upper.now in let l = lower.now in both result.bytes
-        ≡ looked_four (looked_word (first_tables u.high) (first_tables u.low) ab.first.bytes)
-        (looked_word (second_tables u.high) (second_tables u.low) ab.second.bytes)
-        (looked_word (first_tables l.high) (first_tables l.low) cd.first.bytes)
-        (looked_word (second_tables l.high) (second_tables l.low) cd.second.bytes) j }
-{
-    let high = upper.part(ab, j);
-    let low = lower.part(cd, j);
-    high.xor(low)
+}
+
+impl<'a> Parts<WordPair> for FourPaired<'a> {
+    ghost parts = { λ s. let u = s.upper.now in let l = s.lower.now in
+        looked_four (looked_word (first_tables u.high) (first_tables u.low) s.ab.first.bytes)
+        (looked_word (second_tables u.high) (second_tables u.low) s.ab.second.bytes)
+        (looked_word (first_tables l.high) (first_tables l.low) s.cd.first.bytes)
+        (looked_word (second_tables l.high) (second_tables l.low) s.cd.second.bytes) };
+
+    #[inline(always)]
+    fn part(&self, j: usize) -> WordPair {
+        let high = self.upper.part(self.ab, j);
+        let low = self.lower.part(self.cd, j);
+        high.xor(low)
+    }
 }
 
 // The sum of the products of four words, each with the word whose multiples a half of the tables holds.
@@ -88,15 +91,11 @@ pub(crate) fn times_pairs(
 {
     let ab = NibblePairs::of(a, b);
     let cd = NibblePairs::of(c, d);
-    let mut sum = PlacedPairs::none();
-    'low: for j in 0..7usize {
-        sum = sum.low(part_of_four(upper, lower, ab, cd, j), 8 * j as u64 + 8);
-    }
-    let seventh = part_of_four(upper, lower, ab, cd, 7);
-    sum = sum.middle(seventh);
-    'high: for j in 0..7usize {
-        sum = sum.high(part_of_four(upper, lower, ab, cd, j + 8), 8 * j as u64 + 8);
-    }
-    let last = part_of_four(upper, lower, ab, cd, 15);
-    sum.reduce_with(last)
+    let words = FourPaired {
+        upper,
+        lower,
+        ab,
+        cd,
+    };
+    placed_sum::<WordPair, FourPaired>(&words)
 }

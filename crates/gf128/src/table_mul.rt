@@ -2,19 +2,22 @@
 
 ghost use Rattle.std.specs.Prelude.{◌≡◌, ℕ};
 ghost use Rattle.std.specs.Int.{w128, to_be_bytes};
-ghost use Rattle.gf128.specs.Code.Words.{of_word, entry, AreMultiples, IsWordProduct};
+ghost use Rattle.gf128.specs.Code.Words.{AreTables, IsWordProduct};
 ghost use Rattle.gf128.specs.Code.PlainMultiples.{HasMultiples};
 ghost use Rattle.gf128.specs.Orders.{IsSumAfter};
 
 use crate::hash_order::HashOrder;
-use crate::polynomial_word::{block_of, word_of};
+use crate::polynomial_word::word_of;
 use crate::tables::PlainMultiples;
 use crate::wide_mul::times_many;
 use crate::{Keyed128, Multiply};
-use octets::{Block, WIDE, be_bytes};
+use octets::{Block, be_bytes, wide};
 
 // From this many blocks on, it is faster to make the multiples of three more powers of the key and take four blocks at a time.
-const MANY: usize = if WIDE { 16 } else { 44 };
+#[inline(always)]
+fn many() -> usize {
+    if wide() { 16 } else { 44 }
+}
 
 /// The multiplier that holds 32 multiples of the key, half a KiB: the first choice, whatever the length of the text. For a run
 /// of many blocks it makes the multiples of three more powers of the key, and takes four blocks at a time.
@@ -26,14 +29,14 @@ const MANY: usize = if WIDE { 16 } else { 44 };
 pub struct TableMul {
     pub(crate) word: u128,
     pub(crate) multiples: PlainMultiples,
-    ghost filled: { AreMultiples (of_word word) (entry multiples.high) (entry multiples.low) },
+    ghost filled: { AreTables word multiples.high multiples.low },
 }
 
 // The product of a word and the key whose multiples these are. It is not inlined, since a loop would load all the tables before
 // its first block.
 #[inline(never)]
 fn product(multiples: &PlainMultiples, x: u128) -> u128
-    ensures { (h : ℕ) → AreMultiples (of_word h) (entry multiples.now.high) (entry multiples.now.low)
+    ensures { (h : ℕ) → AreTables h multiples.now.high multiples.now.low
         → IsWordProduct x (to_be_bytes w128 h) result }
 {
     multiples.times_word(x)
@@ -46,7 +49,7 @@ pub(crate) fn times_few<O: HashOrder>(
     sum: u128,
     blocks: &[[u8; 16]],
 ) -> u128
-    ensures { (h : ℕ) → AreMultiples (of_word h) (entry multiples.now.high) (entry multiples.now.low)
+    ensures { (h : ℕ) → AreTables h multiples.now.high multiples.now.low
         → IsSumAfter O.order (to_be_bytes w128 h) sum blocks.now result }
 {
     let mut total = sum;
@@ -62,10 +65,9 @@ impl TableMul {
     pub(crate) fn of_word(word: u128) -> TableMul
         ensures { result.word ≡ word }
     {
-        TableMul {
-            word,
-            multiples: PlainMultiples::of(word),
-        }
+        let multiples = PlainMultiples::of(word);
+        multiples.bytes_known();
+        TableMul { word, multiples }
     }
 
     // The multiplier of 0, whose tables are all zeros.
@@ -84,6 +86,17 @@ impl TableMul {
         ensures { self.new.word ≡ word }
     {
         *self = TableMul::of_word(word);
+    }
+
+    // The multiplier that borrows the multiples.
+    #[inline(always)]
+    fn lent<'a>(&'a self) -> PlainMul<'a>
+        ensures { result.word ≡ self.now.word }
+    {
+        PlainMul {
+            word: self.word,
+            numbers: &self.multiples,
+        }
     }
 
     /// Returns the key.
@@ -105,21 +118,13 @@ impl TableMul {
 impl Multiply for TableMul {
     ghost key_bytes = { λ s. to_be_bytes w128 s.word };
 
-    fn times(&self, x: &Block) -> Block {
-        block_of(self.multiples.times_word(word_of(x.bytes())))
-    }
-
     fn times_word(&self, x: u128) -> u128 {
-        product(&self.multiples, x)
+        self.lent().times_word(x)
     }
 
     #[inline(always)]
     fn times_all<O: HashOrder>(&self, sum: u128, blocks: &[[u8; 16]]) -> u128 {
-        if blocks.len() < MANY {
-            times_few::<O>(&self.multiples, sum, blocks)
-        } else {
-            times_many::<O>(self.word, &self.multiples, sum, blocks)
-        }
+        self.lent().times_all::<O>(sum, blocks)
     }
 }
 
@@ -142,7 +147,7 @@ impl Keyed128 for TableMul {
 pub struct PlainMul<'a> {
     word: u128,
     numbers: &'a PlainMultiples,
-    ghost filled: { AreMultiples (of_word word) (entry numbers.now.high) (entry numbers.now.low) },
+    ghost filled: { AreTables word numbers.now.high numbers.now.low },
 }
 
 impl<'a> PlainMul<'a> {
@@ -153,6 +158,7 @@ impl<'a> PlainMul<'a> {
         requires { HasMultiples numbers.now key.now }
         ensures { ⟦<PlainMul<'a> as Multiply>⟧.key_bytes result ≡ key.now }
     {
+        numbers.bytes_known();
         PlainMul {
             word: word_of(key.bytes()),
             numbers,
@@ -163,17 +169,13 @@ impl<'a> PlainMul<'a> {
 impl<'a> Multiply for PlainMul<'a> {
     ghost key_bytes = { λ s. to_be_bytes w128 s.word };
 
-    fn times(&self, x: &Block) -> Block {
-        block_of(self.numbers.times_word(word_of(x.bytes())))
-    }
-
     fn times_word(&self, x: u128) -> u128 {
         product(self.numbers, x)
     }
 
     #[inline(always)]
     fn times_all<O: HashOrder>(&self, sum: u128, blocks: &[[u8; 16]]) -> u128 {
-        if blocks.len() < MANY {
+        if blocks.len() < many() {
             times_few::<O>(self.numbers, sum, blocks)
         } else {
             times_many::<O>(self.word, self.numbers, sum, blocks)

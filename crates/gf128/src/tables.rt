@@ -4,11 +4,11 @@
 ghost use Rattle.std.specs.Prelude.{◌≡◌, ℕ, ◌+◌, ◌*◌, ◌/◌, ◌%◌, ◌<◌, slice_index, bit_xor};
 ghost use Rattle.std.specs.Int.{w128, to_be_bytes};
 ghost use Rattle.octets.specs.Bytes.{le};
-ghost use Rattle.gf128.specs.Code.Words.{of_word, entry, looked_up, table_at, AreBytes, AreMultiples};
+ghost use Rattle.gf128.specs.Code.Words.{of_word, entry, looked_up, looked_word, table_at, AreBytes, AreMultiples, AreTables};
 ghost use Rattle.gf128.specs.Code.Words.{IsBitsProduct, IsWordProduct};
 
 use crate::nibbles::Nibbles;
-use crate::placed::Placed;
+use crate::placed::{Parts, placed_sum};
 use crate::word_bytes::WordBytes;
 use std::simd::prelude::*;
 use std::simd::u8x16;
@@ -154,31 +154,40 @@ impl PlainMultiples {
     // Multiplies the word whose multiples these are by another word, both as vectors.
     #[inline(always)]
     pub(crate) fn times_bytes(&self, word: WordBytes) -> WordBytes
-        ensures { (h : ℕ) → AreMultiples (of_word h) (entry self.now.high) (entry self.now.low)
+        ensures { (h : ℕ) → AreTables h self.now.high self.now.low
             → IsWordProduct (le word.bytes) (to_be_bytes w128 h) (le result.bytes) }
     {
-        self.bytes_known();
         let at = Nibbles::of(word);
-        let mut sum = Placed::none();
-        'low: for j in 0..7usize {
-            sum = sum.low(self.part(at, j), 8 * j as u64 + 8);
-        }
-        let seventh = self.part(at, 7);
-        sum = sum.middle(seventh);
-        'high: for j in 0..7usize {
-            sum = sum.high(self.part(at, j + 8), 8 * j as u64 + 8);
-        }
-        let last = self.part(at, 15);
-        sum.reduce_with(last)
+        let words = OneWord {
+            multiples: self,
+            at,
+        };
+        placed_sum::<WordBytes, OneWord>(&words)
     }
 
     // Multiplies the word whose multiples these are by another word.
     #[inline(always)]
     pub(crate) fn times_word(&self, x: u128) -> u128
-        ensures { (h : ℕ) → AreMultiples (of_word h) (entry self.now.high) (entry self.now.low)
+        ensures { (h : ℕ) → AreTables h self.now.high self.now.low
             → IsWordProduct x (to_be_bytes w128 h) result }
     {
         let word = WordBytes::of(x);
         self.times_bytes(word).word()
+    }
+}
+
+// What the multiples of a word give for each byte of another one.
+#[derive(Drop)]
+struct OneWord<'a> {
+    multiples: &'a PlainMultiples,
+    at: Nibbles,
+}
+
+impl<'a> Parts<WordBytes> for OneWord<'a> {
+    ghost parts = { λ s. looked_word s.multiples.now.high s.multiples.now.low s.at.word.bytes };
+
+    #[inline(always)]
+    fn part(&self, j: usize) -> WordBytes {
+        self.multiples.part(self.at, j)
     }
 }

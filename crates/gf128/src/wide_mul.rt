@@ -4,19 +4,19 @@ ghost use Rattle.std.specs.Prelude.{◌≡◌, ℕ, ◌*◌, ◌<◌, List, leng
 ghost use Rattle.std.specs.Int.{w128, to_be_bytes};
 ghost use Rattle.octets.specs.Bytes.{le};
 ghost use Rattle.octets.specs.Polynomial.{power, Agree};
-ghost use Rattle.gf128.specs.Code.Words.{of_word, looked_word, looked_four, entry, AreMultiples, AreFours, IsReduced, IsFourProducts};
+ghost use Rattle.gf128.specs.Code.Words.{of_word, looked_word, looked_four, AreTables, AreFours, IsReduced, IsFourProducts};
 ghost use Rattle.gf128.specs.Code.PlainMultiples.{ArePaired};
 ghost use Rattle.gf128.specs.Orders.{sum_after, IsSumAfter};
 
 use crate::hash_order::HashOrder;
 use crate::nibbles::Nibbles;
 use crate::paired::{PairTables, times_pairs};
-use crate::placed::Placed;
+use crate::placed::{Lanes, Parts, placed_sum};
 use crate::table_mul::{TableMul, times_few};
 use crate::tables::PlainMultiples;
 use crate::word_bytes::WordBytes;
 use crate::{Keyed128, Multiply};
-use octets::{Block, WIDE};
+use octets::{Block, wide};
 
 // From this many runs of four blocks on, it is faster to copy the tables for vectors of 32 bytes.
 const PAIRS_PAY: usize = 3;
@@ -36,79 +36,112 @@ pub struct WideMul {
     ghost fourth_power: { IsReduced (power (of_word first.word) 4) fourth.word },
 }
 
-// Four words as the indices of look-ups.
-#[derive(Drop, Clone, Copy)]
-struct FourWords {
+// What multiplies four words by the first four powers of a key.
+trait FourProducts {
+    // The key's bytes.
+    ghost key: { Self → List ℕ };
+
+    // The sum of four words times four powers of the key, the fourth power first.
+    fn times_four(&self, a: WordBytes, b: WordBytes, c: WordBytes, d: WordBytes) -> WordBytes
+        ensures { IsFourProducts (le a.bytes) (le b.bytes) (le c.bytes) (le d.bytes) (key self.now) (le result.bytes) };
+}
+
+// What the tables of a multiplier give for each byte of four words, each with the tables of its own power.
+#[derive(Drop)]
+struct FourWords<'a> {
+    multiplier: &'a WideMul,
     fourth: Nibbles,
     third: Nibbles,
     second: Nibbles,
     first: Nibbles,
 }
 
-impl FourWords {
-    // The word for the fourth power comes first.
-    #[inline(always)]
-    fn of(a: WordBytes, b: WordBytes, c: WordBytes, d: WordBytes) -> FourWords
-        ensures fourth { result.fourth.word ≡ a }
-        ensures third { result.third.word ≡ b }
-        ensures second { result.second.word ≡ c }
-        ensures first { result.first.word ≡ d }
-    {
-        FourWords {
-            fourth: Nibbles::of(a),
-            third: Nibbles::of(b),
-            second: Nibbles::of(c),
-            first: Nibbles::of(d),
-        }
-    }
-}
+impl<'a> Parts<WordBytes> for FourWords<'a> {
+    ghost parts = { λ s. let m = s.multiplier.now in
+        looked_four (looked_word m.fourth.multiples.high m.fourth.multiples.low s.fourth.word.bytes)
+        (looked_word m.third.multiples.high m.third.multiples.low s.third.word.bytes)
+        (looked_word m.second.multiples.high m.second.multiples.low s.second.word.bytes)
+        (looked_word m.first.multiples.high m.first.multiples.low s.first.word.bytes) };
 
-impl WideMul {
-    // XORs what the tables of byte `j` of the multiples give for four words, each with the tables of its own power.
     #[inline(always)]
-    fn part(&self, words: FourWords, j: usize) -> WordBytes
-        requires { j < 16 }
-        ensures { let s = self.now in le result.bytes
-            ≡ looked_four (looked_word s.fourth.multiples.high s.fourth.multiples.low words.fourth.word.bytes)
-            (looked_word s.third.multiples.high s.third.multiples.low words.third.word.bytes)
-            (looked_word s.second.multiples.high s.second.multiples.low words.second.word.bytes)
-            (looked_word s.first.multiples.high s.first.multiples.low words.first.word.bytes) j }
-    {
-        let fourth = self.fourth.multiples.part(words.fourth, j);
-        let third = self.third.multiples.part(words.third, j);
-        let second = self.second.multiples.part(words.second, j);
-        let first = self.first.multiples.part(words.first, j);
+    fn part(&self, j: usize) -> WordBytes {
+        let tables = self.multiplier;
+        let fourth = tables.fourth.multiples.part(self.fourth, j);
+        let third = tables.third.multiples.part(self.third, j);
+        let second = tables.second.multiples.part(self.second, j);
+        let first = tables.first.multiples.part(self.first, j);
         let high = fourth.xor(third);
         let low = second.xor(first);
         high.xor(low)
     }
+}
 
-    // The sum of four words times four powers of the key, the fourth power first.
+impl FourProducts for WideMul {
+    ghost key = { λ s. to_be_bytes w128 s.first.word };
+
     #[inline(always)]
-    fn times_bytes(&self, a: WordBytes, b: WordBytes, c: WordBytes, d: WordBytes) -> WordBytes
-        ensures { IsFourProducts (le a.bytes) (le b.bytes) (le c.bytes) (le d.bytes) (to_be_bytes w128 self.now.first.word) (le result.bytes) }
-    {
-        self.first.multiples.bytes_known();
-        self.second.multiples.bytes_known();
-        self.third.multiples.bytes_known();
-        self.fourth.multiples.bytes_known();
-        let words = FourWords::of(a, b, c, d);
-        let mut sum = Placed::none();
-        'low: for j in 0..7usize {
-            sum = sum.low(self.part(words, j), 8 * j as u64 + 8);
-        }
-        let seventh = self.part(words, 7);
-        sum = sum.middle(seventh);
-        'high: for j in 0..7usize {
-            sum = sum.high(self.part(words, j + 8), 8 * j as u64 + 8);
-        }
-        let last = self.part(words, 15);
-        sum.reduce_with(last)
+    fn times_four(&self, a: WordBytes, b: WordBytes, c: WordBytes, d: WordBytes) -> WordBytes {
+        let fourth = Nibbles::of(a);
+        let third = Nibbles::of(b);
+        let second = Nibbles::of(c);
+        let first = Nibbles::of(d);
+        let words = FourWords {
+            multiplier: self,
+            fourth,
+            third,
+            second,
+            first,
+        };
+        placed_sum::<WordBytes, FourWords>(&words)
     }
+}
 
+// A multiplier with its tables in pairs, for vectors of 32 bytes.
+#[derive(Drop)]
+struct PairedMul<'a> {
+    multiplier: &'a WideMul,
+    upper: &'a PairTables,
+    lower: &'a PairTables,
+    ghost upper_is: { ArePaired upper.now.high upper.now.low multiplier.now.fourth.multiples multiplier.now.third.multiples },
+    ghost lower_is: { ArePaired lower.now.high lower.now.low multiplier.now.second.multiples multiplier.now.first.multiples },
+}
+
+impl<'a> FourProducts for PairedMul<'a> {
+    ghost key = { λ s. to_be_bytes w128 s.multiplier.now.first.word };
+
+    #[inline(always)]
+    fn times_four(&self, a: WordBytes, b: WordBytes, c: WordBytes, d: WordBytes) -> WordBytes {
+        times_pairs(self.upper, self.lower, a, b, c, d)
+    }
+}
+
+// The sum after blocks that come in fours.
+#[inline(always)]
+fn times_fours<O: HashOrder, F: FourProducts>(
+    multiplier: &F,
+    sum: u128,
+    fours: &[[[u8; 16]; 4]],
+) -> u128
+    ensures { (blocks : List (List ℕ)) → AreFours fours.now blocks → Agree (of_word result)
+        (sum_after O.order (F.key multiplier.now) (of_word sum) blocks (length fours.now * 4)) }
+{
+    // The sum stays a vector from one run of four blocks to the next.
+    let mut total = WordBytes::of(sum);
+    'fours: for four in fours {
+        let first = WordBytes::of_bytes(O::word_bytes(&four[0]));
+        let a = total.xor(first);
+        let b = WordBytes::of_bytes(O::word_bytes(&four[1]));
+        let c = WordBytes::of_bytes(O::word_bytes(&four[2]));
+        let d = WordBytes::of_bytes(O::word_bytes(&four[3]));
+        total = multiplier.times_four(a, b, c, d);
+    }
+    total.word()
+}
+
+impl WideMul {
     // Makes this the multiplier of the key that this word is, in place. To copy the key's multiples is faster than to make them.
     fn set_multiples(&mut self, word: u128, multiples: &PlainMultiples)
-        requires { AreMultiples (of_word word) (entry multiples.now.high) (entry multiples.now.low) }
+        requires { AreTables word multiples.now.high multiples.now.low }
         ensures { self.new.first.word ≡ word }
     {
         self.first = TableMul {
@@ -130,87 +163,30 @@ impl WideMul {
         self.set_multiples(table.word, &table.multiples);
     }
 
-    // The same, by tables in pairs.
-    #[inline(always)]
-    fn times_bytes_by_pairs(
-        &self,
-        upper: &PairTables,
-        lower: &PairTables,
-        a: WordBytes,
-        b: WordBytes,
-        c: WordBytes,
-        d: WordBytes,
-    ) -> WordBytes
-        requires upper { ArePaired upper.now.high upper.now.low self.now.fourth.multiples self.now.third.multiples }
-        requires lower { ArePaired lower.now.high lower.now.low self.now.second.multiples self.now.first.multiples }
-        ensures { IsFourProducts (le a.bytes) (le b.bytes) (le c.bytes) (le d.bytes) (to_be_bytes w128 self.now.first.word) (le result.bytes) }
-    {
-        self.first.multiples.bytes_known();
-        self.second.multiples.bytes_known();
-        self.third.multiples.bytes_known();
-        self.fourth.multiples.bytes_known();
-        times_pairs(upper, lower, a, b, c, d)
-    }
-
-    // The sum after blocks that come in fours.
-    #[inline(always)]
-    fn times_fours<O: HashOrder>(&self, sum: u128, fours: &[[[u8; 16]; 4]]) -> u128
-        ensures { (blocks : List (List ℕ)) → AreFours fours.now blocks → Agree (of_word result)
-            (sum_after O.order (to_be_bytes w128 self.now.first.word) (of_word sum) blocks (length fours.now * 4)) }
-    {
-        // The sum stays a vector from one run of four blocks to the next.
-        let mut total = WordBytes::of(sum);
-        'fours: for four in fours {
-            let first = WordBytes::of_bytes(O::word_bytes(&four[0]));
-            let a = total.xor(first);
-            let b = WordBytes::of_bytes(O::word_bytes(&four[1]));
-            let c = WordBytes::of_bytes(O::word_bytes(&four[2]));
-            let d = WordBytes::of_bytes(O::word_bytes(&four[3]));
-            total = self.times_bytes(a, b, c, d);
-        }
-        total.word()
-    }
-
-    // The same in vectors of 32 bytes. The tables are copied once, so that each look-up loads two tables at once.
-    #[inline(always)]
-    fn times_fours_by_pairs<O: HashOrder>(&self, sum: u128, fours: &[[[u8; 16]; 4]]) -> u128
-        ensures { (blocks : List (List ℕ)) → AreFours fours.now blocks → Agree (of_word result)
-            (sum_after O.order (to_be_bytes w128 self.now.first.word) (of_word sum) blocks (length fours.now * 4)) }
-    {
-        let upper = PairTables::of(&self.fourth.multiples, &self.third.multiples);
-        let lower = PairTables::of(&self.second.multiples, &self.first.multiples);
-        let mut total = WordBytes::of(sum);
-        'fours: for run in fours {
-            let first = WordBytes::of_bytes(O::word_bytes(&run[0]));
-            let a = total.xor(first);
-            let b = WordBytes::of_bytes(O::word_bytes(&run[1]));
-            let c = WordBytes::of_bytes(O::word_bytes(&run[2]));
-            let d = WordBytes::of_bytes(O::word_bytes(&run[3]));
-            total = self.times_bytes_by_pairs(&upper, &lower, a, b, c, d);
-        }
-        total.word()
-    }
-
     // The form that the processor's vectors allow.
     #[inline(always)]
     fn times_runs<O: HashOrder>(&self, sum: u128, fours: &[[[u8; 16]; 4]]) -> u128
         ensures { (blocks : List (List ℕ)) → AreFours fours.now blocks → Agree (of_word result)
             (sum_after O.order (to_be_bytes w128 self.now.first.word) (of_word sum) blocks (length fours.now * 4)) }
     {
-        if WIDE && fours.len() >= PAIRS_PAY {
-            self.times_fours_by_pairs::<O>(sum, fours)
+        if wide() && fours.len() >= PAIRS_PAY {
+            // The tables are copied once, so that each look-up loads two tables at once.
+            let upper = PairTables::of(&self.fourth.multiples, &self.third.multiples);
+            let lower = PairTables::of(&self.second.multiples, &self.first.multiples);
+            let by_pairs = PairedMul {
+                multiplier: self,
+                upper: &upper,
+                lower: &lower,
+            };
+            times_fours::<O, PairedMul>(&by_pairs, sum, fours)
         } else {
-            self.times_fours::<O>(sum, fours)
+            times_fours::<O, WideMul>(self, sum, fours)
         }
     }
 }
 
 impl Multiply for WideMul {
     ghost key_bytes = { λ s. to_be_bytes w128 s.first.word };
-
-    fn times(&self, x: &Block) -> Block {
-        self.first.times(x)
-    }
 
     fn times_word(&self, x: u128) -> u128 {
         self.first.times_word(x)
@@ -260,7 +236,7 @@ pub(crate) fn times_many<O: HashOrder>(
     sum: u128,
     blocks: &[[u8; 16]],
 ) -> u128
-    requires { AreMultiples (of_word word) (entry multiples.now.high) (entry multiples.now.low) }
+    requires { AreTables word multiples.now.high multiples.now.low }
     ensures { IsSumAfter O.order (to_be_bytes w128 word) sum blocks.now result }
 {
     let mut multiplier = WideMul::none();

@@ -1,9 +1,10 @@
 //! Words of 128 bits as vectors of bytes: a shift by one byte is one shuffle, where LLVM makes three shifts for a number.
 
-ghost use Rattle.std.specs.Prelude.{◌≡◌, ◌+◌, ◌*◌, ◌/◌, ◌%◌, ◌^◌, ◌<◌, bit_xor};
+ghost use Rattle.std.specs.Prelude.{◌≡◌, ◌*◌, ◌/◌, ◌%◌, ◌^◌, ◌<◌, bit_xor};
 ghost use Rattle.octets.specs.Bytes.{IsBlock, le};
-ghost use Rattle.gf128.specs.Code.Words.{halves_up, halves_down, IsMoved};
+ghost use Rattle.gf128.specs.Code.Words.{IsMoved};
 
+use crate::placed::Lanes;
 use octets::le_bytes;
 use std::simd::prelude::*;
 use std::simd::{u8x16, u64x2};
@@ -42,38 +43,6 @@ impl WordBytes {
         ensures { result ≡ le self.bytes }
     {
         u128::from_le_bytes(self.bytes.to_array())
-    }
-
-    // The XOR of two words.
-    #[inline(always)]
-    pub(crate) fn xor(self, other: WordBytes) -> WordBytes
-        ensures { le result.bytes ≡ bit_xor (le self.bytes) (le other.bytes) }
-    {
-        WordBytes {
-            bytes: self.bytes ^ other.bytes,
-        }
-    }
-
-    // The word with both its halves shifted up.
-    #[inline(always)]
-    pub(crate) fn up(self, count: u64) -> WordBytes
-        requires { count < 64 }
-        ensures { le result.bytes ≡ halves_up count (le self.bytes) }
-    {
-        WordBytes {
-            bytes: (u64x2::from_le_bytes(self.bytes) << u64x2::splat(count)).to_le_bytes(),
-        }
-    }
-
-    // The word with both its halves shifted down.
-    #[inline(always)]
-    pub(crate) fn down(self, count: u64) -> WordBytes
-        requires { count < 64 }
-        ensures { le result.bytes ≡ halves_down count (le self.bytes) }
-    {
-        WordBytes {
-            bytes: (u64x2::from_le_bytes(self.bytes) >> u64x2::splat(count)).to_le_bytes(),
-        }
     }
 
     // The word moved up by 64 places. What it loses is gone.
@@ -135,5 +104,40 @@ impl WordBytes {
         let out = self.up(64 - count).half_up();
         let fold = out.folded();
         self.shifted_down(count).xor(fold)
+    }
+}
+
+impl Lanes for WordBytes {
+    ghost value = { λ s. le s.bytes };
+
+    #[inline(always)]
+    fn zero() -> WordBytes {
+        WordBytes::of(0)
+    }
+
+    #[inline(always)]
+    fn xor(self, other: WordBytes) -> WordBytes {
+        WordBytes {
+            bytes: self.bytes ^ other.bytes,
+        }
+    }
+
+    #[inline(always)]
+    fn up(self, count: u64) -> WordBytes {
+        WordBytes {
+            bytes: (u64x2::from_le_bytes(self.bytes) << u64x2::splat(count)).to_le_bytes(),
+        }
+    }
+
+    #[inline(always)]
+    fn down(self, count: u64) -> WordBytes {
+        WordBytes {
+            bytes: (u64x2::from_le_bytes(self.bytes) >> u64x2::splat(count)).to_le_bytes(),
+        }
+    }
+
+    #[inline(always)]
+    fn sum(self) -> WordBytes {
+        self
     }
 }

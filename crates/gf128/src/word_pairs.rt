@@ -1,9 +1,9 @@
 //! Two words of 128 bits in a vector of 32 bytes. What counts is their XOR, so that a vector needs to be halved only once.
 
-ghost use Rattle.std.specs.Prelude.{◌≡◌, ◌<◌, ◌++◌, take, drop, bit_xor};
-ghost use Rattle.octets.specs.Bytes.{le};
-ghost use Rattle.gf128.specs.Code.Words.{halves_up, halves_down, both, IsPair};
+ghost use Rattle.std.specs.Prelude.{◌≡◌, ◌++◌, take, drop};
+ghost use Rattle.gf128.specs.Code.Words.{both, IsPair};
 
+use crate::placed::Lanes;
 use crate::word_bytes::WordBytes;
 use std::simd::prelude::*;
 use std::simd::{u8x16, u8x32, u64x4};
@@ -67,54 +67,41 @@ impl WordPair {
             bytes: u8x32::from_array(bytes),
         }
     }
+}
 
-    // Twice 0.
+impl Lanes for WordPair {
+    ghost value = { λ s. both s.bytes };
+
     #[inline(always)]
-    pub(crate) fn zero() -> WordPair
-        ensures { both result.bytes ≡ 0 }
-    {
+    fn zero() -> WordPair {
         WordPair::of(WordBytes::of(0), WordBytes::of(0))
     }
 
-    // The XOR of the two words.
     #[inline(always)]
-    pub(crate) fn sum(self) -> WordBytes
-        ensures { le result.bytes ≡ both self.bytes }
-    {
-        WordBytes {
-            bytes: first_half(self.bytes) ^ second_half(self.bytes),
-        }
-    }
-
-    // Both words XORed with those of another vector.
-    #[inline(always)]
-    pub(crate) fn xor(self, other: WordPair) -> WordPair
-        ensures { both result.bytes ≡ bit_xor (both self.bytes) (both other.bytes) }
-    {
+    fn xor(self, other: WordPair) -> WordPair {
         WordPair {
             bytes: self.bytes ^ other.bytes,
         }
     }
 
-    // Both words with both their halves shifted up.
     #[inline(always)]
-    pub(crate) fn up(self, count: u64) -> WordPair
-        requires { count < 64 }
-        ensures { both result.bytes ≡ halves_up count (both self.bytes) }
-    {
+    fn up(self, count: u64) -> WordPair {
         WordPair {
             bytes: (u64x4::from_le_bytes(self.bytes) << u64x4::splat(count)).to_le_bytes(),
         }
     }
 
-    // Both words with both their halves shifted down.
     #[inline(always)]
-    pub(crate) fn down(self, count: u64) -> WordPair
-        requires { count < 64 }
-        ensures { both result.bytes ≡ halves_down count (both self.bytes) }
-    {
+    fn down(self, count: u64) -> WordPair {
         WordPair {
             bytes: (u64x4::from_le_bytes(self.bytes) >> u64x4::splat(count)).to_le_bytes(),
+        }
+    }
+
+    #[inline(always)]
+    fn sum(self) -> WordBytes {
+        WordBytes {
+            bytes: first_half(self.bytes) ^ second_half(self.bytes),
         }
     }
 }

@@ -128,8 +128,8 @@ pub(crate) fn wrap_blocks(key: &AesKey, first: &mut [u8; 8], blocks: &mut [u8])
 {
     let count = blocks.len() / 8;
     let mut a = u8x8::from_array(*first);
-    'rounds: for round in 0..6 {
-        'places: for i in 0..count {
+    for round in 0..6 {
+        for i in 0..count {
             a = wrap_step(key, (count * round + i + 1) as u64, 8 * i, a, blocks);
         }
     }
@@ -148,8 +148,8 @@ pub(crate) fn unwrap_blocks(key: &AesKey, first: &mut [u8; 8], blocks: &mut [u8]
     let ready = key.inverse();
     let count = blocks.len() / 8;
     let mut a = u8x8::from_array(*first);
-    'rounds: for round in (0..6).rev() {
-        'places: for i in (0..count).rev() {
+    for round in (0..6).rev() {
+        for i in (0..count).rev() {
             a = unwrap_step(&ready, (count * round + i + 1) as u64, 8 * i, a, blocks);
         }
     }

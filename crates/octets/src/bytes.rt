@@ -10,8 +10,8 @@ ghost use Rattle.octets.specs.Bytes.{AreBytes};
 use crate::fault::Fault;
 use std::marker::{Model, PhantomData};
 
-// A law for the caller's proof: each byte of a slice is below 256. The call does nothing.
-fn tells_bytes(bytes: &[u8])
+/// A law for the caller's proof: each byte of a slice is below 256. The call does nothing.
+pub fn tells_bytes(bytes: &[u8])
     ensures { AreBytes (length bytes.now) bytes.now }
 {}
 

@@ -34,6 +34,7 @@ mod work;
 
 pub use bytes::{
     Block, BlockUse, Bytes, Key16, Key24, Key32, KeyUse, LengthFault, Nonce, NonceUse, Tag, TagUse,
+    tells_bytes,
 };
 pub use compare::{same, xor_into, xored};
 pub use device::{DeviceFault, Intake, Outlet};
@@ -44,7 +45,7 @@ pub use pieces::{Absorb, Pieces};
 pub use script::{ScriptIntake, ScriptOutlet, Step};
 pub use std_io::{FromRead, ToWrite};
 pub use transfer::{fill, give_all};
-pub use vector_width::WIDE;
+pub use vector_width::wide;
 pub use words::{be_bytes, joined, le_bytes, padded};
 pub use work::{BlockWork, Idle, Interleaved, Stream, Work};
 

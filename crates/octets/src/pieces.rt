@@ -66,14 +66,6 @@ impl<A: Absorb> Pieces<A> {
         }
     }
 
-    /// Returns the state that absorbed the whole blocks of the text.
-    pub fn core(&self) -> &A
-        ensures { (k m : List ℕ) → HoldsPieces A.absorbed self.now k m
-            → A.absorbed result.now k (take (length m / 16 * 16) m) }
-    {
-        &self.core
-    }
-
     /// Returns the bytes of the text after its last whole block: fewer than 16.
     pub fn rest(&self) -> &[u8]
         ensures value { (k m : List ℕ) → HoldsPieces A.absorbed self.now k m

@@ -154,7 +154,7 @@ impl<M: Multiplier> PolyBy<M> {
         ensures value { (k m : List ℕ) → HoldsBy M.factor self.now k m → IsSum k m result.0 result.1 }
         ensures below { pair result.0 result.1 < prime }
     {
-        let sum = self.pieces.core().sum.residue();
+        let sum = self.pieces.core.sum.residue();
         (sum.low, sum.high)
     }
 
@@ -219,7 +219,7 @@ impl<M: Multiplier> PolyBy<M> {
         ensures value { (k m : List ℕ) → HoldsBy M.factor self.now k m → result ≡ poly1305 k m }
         ensures is_block { IsBlock result }
     {
-        let core = self.pieces.core();
+        let core = &self.pieces.core;
         let rest = self.pieces.rest();
         let mut sum = core.sum;
         if rest.len() > 0 {

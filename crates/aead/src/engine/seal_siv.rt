@@ -1,14 +1,13 @@
 //! The engine that seals a stream in two readings, under AES-GCM-SIV (RFC 8452, 4): the tag of the first begins the mask of the
 //! second.
 
-ghost use Rattle.std.specs.Prelude.{◌≡◌, ◌↔◌, ◌<◌, ◌≤◌, ◌∷◌, ℕ, List, [], length, IfSome, IsTrue};
+ghost use Rattle.std.specs.Prelude.{◌≡◌, ◌↔◌, ◌<◌, ◌≤◌, ◌∷◌, ℕ, List, [], length, IfSome};
 ghost use Rattle.aead.specs.Refusals.{DueToBoth, late_in_readings, UntouchedUnless};
 ghost use Rattle.aead.specs.Suites.{ByGcmSiv, construction_of, text_limit_by, aad_limit};
 ghost use Rattle.aead.specs.Sealing.{Setting, tag_of};
 ghost use Rattle.aead.specs.Ciphers.{setting};
 ghost use Rattle.aead.specs.PassStates.{HoldsNumbers};
 ghost use Rattle.aead.specs.Code.MessageKeys.{construction_by, AreKeysOf};
-ghost use Rattle.aead.specs.Pieces.{Repeats};
 ghost use Rattle.aead.specs.SealSivStream.{WritesAgain, SealsSivStream, SivBlames, IfBothKnown};
 
 use crate::aead::Aead;
@@ -17,18 +16,10 @@ use crate::engine::stage::{Masking, Reading};
 use crate::gcm_siv::GcmSiv;
 use crate::pieces::keys::{LentMul, MessageKeys};
 use crate::pieces::pass_state::PassState;
+use crate::pieces::two_pass_state::repeats;
 use crate::step::Order;
 use gf128::{Keyed128, WideMul};
-use octets::{Fault, Intake, Nonce, Outlet, Tag, give_all, same};
-
-// Returns whether a second reading has the length and the tag of the first one.
-fn repeats(keys: &MessageKeys, again: &PassState, first_length: u64, tag: &Tag) -> bool
-    ensures { (s : Setting) (first text : List ℕ) → construction_of s.suite ≡ ByGcmSiv → AreKeysOf keys.now s
-        → first_length ≡ length first → tag.now ≡ tag_of s first → HoldsNumbers again.now s text
-        → IsTrue result ↔ Repeats s first text }
-{
-    again.length == first_length && same(keys.tag(again).bytes(), tag.bytes())
-}
+use octets::{Fault, Intake, Nonce, Outlet, Tag, give_all};
 
 // Encrypts a second reading and gives it, and then gives the tag if the reading repeats the first one.
 fn write_again<J: Intake, O: Outlet>(
@@ -57,7 +48,7 @@ fn write_again<J: Intake, O: Outlet>(
     };
     match pass_all(intake, &mut again, first_length, outlet) {
         Ok(Some(_)) => {
-            if repeats(keys, &again.state, first_length, tag) {
+            if repeats(keys, &again.state, first_length, tag.bytes()) {
                 match give_all(outlet, tag.bytes()) {
                     Ok(()) => Ok(()),
                     Err(_) => Err(Fault::Write),

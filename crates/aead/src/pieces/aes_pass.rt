@@ -50,9 +50,9 @@ fn mask_expanded<R: Rule>(
     state: &mut PassState,
     keys: ExpandedKey,
     nonce: &Nonce,
-    tag: &[u8; 16],
     known: &mut KnownBlock,
     order: Order,
+    tag: &[u8; 16],
     piece: &mut [u8],
 )
     requires { state.old.length + length piece.old ≤ 2 ^ 36 }
@@ -79,9 +79,9 @@ fn mask_anew<R: Rule>(
     state: &mut PassState,
     bytes: KeyBytes,
     nonce: &Nonce,
-    tag: &[u8; 16],
     known: &mut KnownBlock,
     order: Order,
+    tag: &[u8; 16],
     piece: &mut [u8],
 )
     requires { state.old.length + length piece.old ≤ 2 ^ 36 }
@@ -97,7 +97,7 @@ fn mask_anew<R: Rule>(
         key: &key,
         multiplier: LentMul::Table(&multiplier),
     };
-    mask_expanded::<R>(state, keys, nonce, tag, known, order, piece);
+    mask_expanded::<R>(state, keys, nonce, known, order, tag, piece);
 }
 
 // Masks and authenticates a piece.
@@ -106,9 +106,9 @@ pub(crate) fn mask<R: Rule>(
     state: &mut PassState,
     keys: AesKeys,
     nonce: &Nonce,
-    tag: &[u8; 16],
     known: &mut KnownBlock,
     order: Order,
+    tag: &[u8; 16],
     piece: &mut [u8],
 )
     requires { state.old.length + length piece.old ≤ 2 ^ 36 }
@@ -119,8 +119,8 @@ pub(crate) fn mask<R: Rule>(
     ensures length { state.new.length ≡ state.old.length + length piece.old }
 {
     match keys {
-        AesKeys::Expanded(keys) => mask_expanded::<R>(state, keys, nonce, tag, known, order, piece),
-        AesKeys::Bytes(bytes) => mask_anew::<R>(state, bytes, nonce, tag, known, order, piece),
+        AesKeys::Expanded(keys) => mask_expanded::<R>(state, keys, nonce, known, order, tag, piece),
+        AesKeys::Bytes(bytes) => mask_anew::<R>(state, bytes, nonce, known, order, tag, piece),
     }
 }
 

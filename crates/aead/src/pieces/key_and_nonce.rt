@@ -3,8 +3,9 @@
 
 ghost use Rattle.std.specs.Prelude.{◌≡◌, ◌≤◌, ◌-◌, ℕ, List, length, take, drop, replicate};
 ghost use Rattle.std.specs.Prelude.{MatchResult, IfOk, OnErr};
-ghost use Rattle.aes.specs.Cipher.{IsKey};
+ghost use Rattle.aes.specs.Cipher.{IsKey, IsKeyLength};
 ghost use Rattle.gf128.specs.Orders.{Reversed, Serves};
+ghost use Rattle.aead.specs.declared.suite.Suite.{Suite};
 ghost use Rattle.aead.specs.Suites.{ByChaCha, ByGcm, ByGcmSiv, construction_of, key_length, aad_limit};
 ghost use Rattle.aead.specs.Sealing.{Setting, hash_key, authentication_key, encryption_key};
 ghost use Rattle.aead.specs.KeyedPasses.{setting_of, BeginRefused};
@@ -95,17 +96,9 @@ impl KeyAndNonce {
     // Begins a pass under ChaCha20-Poly1305. Each construction has a function of its own, which is not inlined, since the compiler
     // clears the locals of all arms of a `match` when the function is entered.
     #[inline(never)]
-    fn begin_chacha(
-        &mut self,
-        state: &mut PassState,
-        suite: Suite,
-        key: &Key32,
-        nonce: &Nonce,
-        aad: &[u8],
-    )
-        requires by { construction_of suite ≡ ByChaCha }
-        requires fits { length aad.now ≤ aad_limit suite }
-        ensures { HasBegun self.new state.new (setting_of suite key.now nonce.now aad.now) }
+    fn begin_chacha(&mut self, state: &mut PassState, key: &Key32, nonce: &Nonce, aad: &[u8])
+        ensures { (suite : Suite) → construction_of suite ≡ ByChaCha → length aad.now ≤ aad_limit suite
+            → HasBegun self.new state.new (setting_of suite key.now nonce.now aad.now) }
     {
         *self = KeyAndNonce::of(key.bytes(), nonce);
         *state = PassState::initial(&PolyKeys, one_time_key(key, nonce), aad);
@@ -116,19 +109,17 @@ impl KeyAndNonce {
     fn begin_gcm(
         &mut self,
         state: &mut PassState,
-        suite: Suite,
         key: &[u8],
         cipher: &AesKey,
         ghash_key: &Block,
         nonce: &Nonce,
         aad: &[u8],
     )
-        requires by { construction_of suite ≡ ByGcm }
-        requires long { length key.now ≡ key_length suite }
+        requires long { length key.now ≤ 32 }
         requires cipher { cipher.now ≡ key.now }
         requires ghash_key { ghash_key.now ≡ hash_key key.now }
-        requires fits { length aad.now ≤ aad_limit suite }
-        ensures { HasBegun self.new state.new (setting_of suite key.now nonce.now aad.now) }
+        ensures { (suite : Suite) → construction_of suite ≡ ByGcm → length key.now ≡ key_length suite
+            → length aad.now ≤ aad_limit suite → HasBegun self.new state.new (setting_of suite key.now nonce.now aad.now) }
     {
         *self = KeyAndNonce::of(key, nonce);
         *state = aes_pass::initial_state::<GhashOrder>(
@@ -141,18 +132,17 @@ impl KeyAndNonce {
     fn begin_derived(
         &mut self,
         state: &mut PassState,
-        suite: Suite,
         key: &[u8],
         multiplier_key: &Block,
         nonce: &Nonce,
         aad: &[u8],
     )
-        requires { length key.now ≡ key_length suite }
-        ensures is_key { IsKey key.now }
-        ensures holds { (s : Setting) → s.suite ≡ suite → construction_of suite ≡ ByGcmSiv
-            → length s.key ≡ key_length suite → key.now ≡ encryption_key s.key s.nonce
+        requires { length key.now ≤ 32 }
+        ensures is_key { IsKeyLength (length key.now) → IsKey key.now }
+        ensures holds { (s : Setting) → construction_of s.suite ≡ ByGcmSiv → length key.now ≡ key_length s.suite
+            → length s.key ≡ key_length s.suite → key.now ≡ encryption_key s.key s.nonce
             → Serves Reversed (authentication_key s.key s.nonce) multiplier_key.now
-            → s.nonce ≡ nonce.now → s.aad ≡ aad.now → length aad.now ≤ aad_limit suite
+            → s.nonce ≡ nonce.now → s.aad ≡ aad.now → length aad.now ≤ aad_limit s.suite
             → HasBegun self.new state.new s }
     {
         *self = KeyAndNonce::of(key, nonce);
@@ -183,11 +173,11 @@ impl KeyAndNonce {
         match suite {
             Suite::Aes128GcmSiv => {
                 let key = short_encryption_key(&parts);
-                self.begin_derived(state, suite, &key, &multiplier_key, nonce, aad);
+                self.begin_derived(state, &key, &multiplier_key, nonce, aad);
             }
             Suite::Aes256GcmSiv => {
                 let key = long_encryption_key(&parts);
-                self.begin_derived(state, suite, &key, &multiplier_key, nonce, aad);
+                self.begin_derived(state, &key, &multiplier_key, nonce, aad);
             }
             Suite::ChaCha20Poly1305 | Suite::Aes128Gcm | Suite::Aes192Gcm | Suite::Aes256Gcm =>
                 unreachable!(),
@@ -224,20 +214,12 @@ impl KeyAndNonce {
         match suite.construction() {
             Construction::ChaChaPoly => {
                 let key = Key32::from_slice(key)?;
-                self.begin_chacha(state, suite, &key, &nonce, aad);
+                self.begin_chacha(state, &key, &nonce, aad);
                 Ok(())
             }
             Construction::Gcm => {
                 let cipher = AesKey::expanded(key);
-                self.begin_gcm(
-                    state,
-                    suite,
-                    key,
-                    &cipher,
-                    &hash_subkey(&cipher),
-                    &nonce,
-                    aad,
-                );
+                self.begin_gcm(state, key, &cipher, &hash_subkey(&cipher), &nonce, aad);
                 Ok(())
             }
             Construction::GcmSiv => {
@@ -292,7 +274,7 @@ impl KeyAndNonce {
     {
         let nonce = Nonce::from_slice(nonce)?;
         suite.check_aad(aad)?;
-        self.begin_gcm(state, suite, key, cipher, ghash_key, &nonce, aad);
+        self.begin_gcm(state, key, cipher, ghash_key, &nonce, aad);
         Ok(())
     }
 }

@@ -40,7 +40,7 @@ pub(crate) fn take_text<S: MaskWith<H>, H: TagHash>(
     ensures length { authenticator.new.length ≡ authenticator.old.length + length piece.now }
 {
     let mut done = 0;
-    'parts: while done < piece.len() {
+    while done < piece.len() {
         let next = (piece.len() - done).min(PART);
         take_part(mask, authenticator, &piece[done..done + next]);
         done += next;

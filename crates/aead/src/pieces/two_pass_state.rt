@@ -2,18 +2,34 @@
 //! the same whether a cipher lends the keys or a [`crate::KeyAndNonce`].
 
 ghost use Rattle.std.specs.Prelude.{◌≡◌, ◌+◌, ◌<◌, ◌≤◌, ◌++◌, ℕ, List, [], length, min, true, false};
-ghost use Rattle.std.specs.Prelude.{MatchResult, OnErr};
+ghost use Rattle.std.specs.Prelude.{◌↔◌, IsTrue, MatchResult, OnErr};
 ghost use Rattle.octets.specs.Masked.{masked};
 ghost use Rattle.aead.specs.Suites.{ByGcmSiv, construction_of, text_limit, text_limit_by};
 ghost use Rattle.aead.specs.Sealing.{Setting, IsNoSealing, mask_of, tag_of};
 ghost use Rattle.aead.specs.Refusals.{FitsIn, SealRefused};
 ghost use Rattle.aead.specs.PassStates.{HoldsNumbers, IsStart};
+ghost use Rattle.aead.specs.Pieces.{Repeats};
+ghost use Rattle.aead.specs.Code.MessageKeys.{AreKeysOf};
 
 use crate::pieces::keys::MessageKeys;
 use crate::pieces::pass_state::{PassState, SumWords};
 use crate::step::Order;
 use aes::KnownBlock;
 use octets::{Fault, Tag, same};
+
+// Whether the text of a second reading has the length and the tag of the first one.
+pub(crate) fn repeats(
+    keys: &MessageKeys,
+    again: &PassState,
+    first_length: u64,
+    tag: &[u8; 16],
+) -> bool
+    ensures { (s : Setting) (first text : List ℕ) → construction_of s.suite ≡ ByGcmSiv → AreKeysOf keys.now s
+        → first_length ≡ length first → tag.now ≡ tag_of s first → HoldsNumbers again.now s text
+        → IsTrue result ↔ Repeats s first text }
+{
+    again.length == first_length && same(keys.tag(again).bytes(), tag)
+}
 
 /// The state of a sealing in two readings under AES-GCM-SIV, or of an opening in two passes under any suite, as plain numbers,
 /// without the message's key and nonce. Each number may have any value.
@@ -34,8 +50,8 @@ pub struct TwoPassState {
 
 impl TwoPassState {
     ghost use Rattle.aead.specs.KeyedPasses.{KnowsCipherOf};
-    ghost use Rattle.aead.specs.Code.MessageKeys.{construction_by, AreKeysOf};
-    ghost use Rattle.aead.specs.Pieces.{zero_passes, IsInFirstReading, IsInSecondReading, Repeats};
+    ghost use Rattle.aead.specs.Code.MessageKeys.{construction_by};
+    ghost use Rattle.aead.specs.Pieces.{zero_passes, IsInFirstReading, IsInSecondReading};
     ghost use Rattle.aead.specs.Pieces.{IsInPass, IsInFirstPass, IsInSecondPass, Opens, WasOverASealing, MasksByBytes};
 
     /// All zeros.
@@ -125,21 +141,13 @@ impl TwoPassState {
         Ok(())
     }
 
-    // Returns the tag of the text of a reading.
-    fn reading_tag(&self, keys: &MessageKeys) -> Tag
-        ensures { (s : Setting) (text : List ℕ) → construction_of s.suite ≡ ByGcmSiv → AreKeysOf keys.now s
-            → HoldsNumbers self.now.pass s text → result ≡ tag_of s text }
-    {
-        keys.tag(&self.pass)
-    }
-
     /// Ends the first reading, and returns the tag of its text, 16 bytes. The second reading begins.
     pub fn begin_second_reading(&mut self, keys: &MessageKeys) -> Tag
         ensures { (s : Setting) (text : List ℕ) → construction_of s.suite ≡ ByGcmSiv → AreKeysOf keys.now s
             → IsInFirstReading self.old s text
             → (result ≡ tag_of s text) × IsInSecondReading self.new s text [] }
     {
-        let tag = self.reading_tag(keys);
+        let tag = keys.tag(&self.pass);
         *self = self.second(tag.bytes());
         tag
     }
@@ -181,8 +189,7 @@ impl TwoPassState {
             (λ e. (e ≡ Fault.SourceChanged) × ¬ (Repeats s first text)) }
         ensures fault { MatchResult result (λ _. Unit {0}) (λ e. e ≡ Fault.SourceChanged) }
     {
-        let tag = self.reading_tag(keys);
-        if self.pass.length == self.first && same(tag.bytes(), &self.tag) {
+        if repeats(keys, &self.pass, self.first, &self.tag) {
             Ok(())
         } else {
             Err(Fault::SourceChanged)

@@ -1,7 +1,7 @@
 //! One file in memory, a writer that fails, one that halts, and one that has to be flushed.
 ghost use Rattle.std.specs.Prelude.{◌≤◌, IfOk};
 
-use command::Storage;
+use command::{Identity, Storage};
 use octets::{FromRead, ToWrite};
 use std::io;
 
@@ -34,6 +34,10 @@ impl<'a> Storage for OneFile<'a> {
                 failure,
             })),
         }
+    }
+
+    fn identity(&self, _path: &str) -> Option<Identity> {
+        None
     }
 
     fn create(&self, _path: &str) -> io::Result<ToWrite<FailsAfter>> {

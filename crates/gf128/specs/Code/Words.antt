@@ -97,6 +97,12 @@ entry tables n = le (map (λ j. get_or (table_at tables j) n 0) (range_with_len 
 abbrev pub AreBytes : List (List ℕ) → Type 0
 AreBytes tables = (j n : ℕ) → get_or (table_at tables j) n 0 < 256
 
+-- the tables hold the bytes of the multiples of the word h
+pub record AreTables (h : ℕ) (high : List (List ℕ)) (low : List (List ℕ)) : Type 0 where
+  pub high_bytes : AreBytes high
+  pub low_bytes : AreBytes low
+  pub filled : AreMultiples (of_word h) (entry high) (entry low)
+
 -- the sum of those of four numbers at which n has a bit, that of weight 8 for the first one
 abbrev pub mixed : ℕ → ℕ → ℕ → ℕ → ℕ → ℕ
 mixed n a b c d = bit_xor (bit_xor (n / 4 / 2 * a) (n / 4 % 2 * b)) (bit_xor (n % 4 / 2 * c) (n % 4 % 2 * d))

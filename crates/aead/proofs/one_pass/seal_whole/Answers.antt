@@ -19,5 +19,5 @@ returns g c =
     (c.begin.ensures.holds s refl c.requires.aad_fits hash) in
     let fed = c.step.ensures.step s [] [] (c.mask-mask.ensures c.args.aad.now []) none (omega (arith, fits.text_fits)) in
     seals_one_pass s [] c.args.text.now c.step.new.piece c.tag.result
-    (g.met.N.OnePass.one_pass c.args.message.now) fits c.tells_bytes.ensures fed.2
+    (g.met.N.OnePass.one_pass c.args.message.now) fits c.tells_bytes.ensures.bytes fed.2
     (c.tag.ensures c.args.aad.now _ (c.digest.ensures.digest s _ fed.1))

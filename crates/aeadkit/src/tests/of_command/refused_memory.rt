@@ -8,7 +8,7 @@ use super::super::vector_files::{TWO_RECORDS, published, with_lines};
 use super::super::{shows, shows_at};
 use super::scripted_files::{Log, Script, Scripted, Sink, Source};
 use command::{
-    FileCommand, FileRequest, Inputs, PrintRequest, Request, Storage, perform, report,
+    FileCommand, FileRequest, Identity, Inputs, PrintRequest, Request, Storage, perform, report,
     write_new_file,
 };
 use octets::{FromRead, ToWrite};
@@ -52,6 +52,10 @@ impl<'b, 'l, 'm, A: Allocator> Storage for AllocatingFiles<'b, 'l, 'm, A> {
         allocate(self.memory)?;
         let source = self.files.source(reading)?;
         Ok(FromRead::new(BufReader::with_capacity(self.memory, AHEAD, source)?))
+    }
+
+    fn identity(&self, path: &str) -> Option<Identity> {
+        self.files.identity(path)
     }
 
     fn create(&self, path: &str) -> io::Result<ToWrite<Sink<'l>>> {

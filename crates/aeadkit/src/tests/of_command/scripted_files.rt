@@ -1,7 +1,7 @@
 //! Files in memory, one of whose calls goes wrong.
 ghost use Rattle.std.specs.Prelude.{◌≤◌, IfOk};
 
-use command::Storage;
+use command::{Identity, Storage};
 use octets::{FromRead, ToWrite};
 use std::alloc::Global;
 use std::cell::{Cell, RefCell};
@@ -144,6 +144,10 @@ impl<'b, 'l> Storage for Scripted<'b, 'l> {
 
     fn open(&self, _path: &str, reading: u8) -> io::Result<FromRead<Source<'b, 'l>>> {
         Ok(FromRead::new(self.source(reading)?))
+    }
+
+    fn identity(&self, _path: &str) -> Option<Identity> {
+        None
     }
 
     fn create(&self, _path: &str) -> io::Result<ToWrite<Sink<'l>>> {

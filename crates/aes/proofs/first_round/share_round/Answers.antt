@@ -17,12 +17,12 @@ pub returns : goal.returns
 returns c = λ f count blocks steps.
     let key = c.args.key.now in
     let ws = schedule key in
-    let words = words_are key (4 * (round_count key + 1)) c.is_key.ensures.bytes in
+    let words = words_are key (4 * (round_count key + 1)) c.plain_key-first_key.ensures.is_key.bytes in
     let vs = drop (4 * 1) ws in
     let b : List ℕ = c.args.block.now in
     let k : List ℕ = c.plain_key-first_key.result in
     let place : ℕ = c.args.place in
-    let keyed = c.plain_key-first_key.ensures (omega arith) in
+    let keyed = c.plain_key-first_key.ensures.bytes (omega arith) in
     let size : length k ≡ 16 = search rules in
     let hb : IsBlock b = record { length_is = c.told-block; bytes = c.fits-block } in
     let hk : IsBlock k = key_block ws k words size keyed in

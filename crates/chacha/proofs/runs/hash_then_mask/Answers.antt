@@ -4,7 +4,7 @@ use Rattle.octets.proofs.Ends.{all_left}
 use Rattle.octets.specs.Ends.{IsEnd}
 use Rattle.chacha.specs.Stream.{key_stream_byte}
 use Rattle.chacha.proofs.Masking.{no_run, blocks_more}
-use Rattle.chacha.proofs.InterleavedRuns.{interleaved, length-begun, length-run, run_came}
+use Rattle.chacha.proofs.InterleavedRuns.{interleaved, length-begun, length-run, next_exists, run_came}
 use Rattle.chacha.proofs.runs.hash_then_mask.Goals as goal
 
 pub runs-init : goal.runs-init
@@ -25,6 +25,27 @@ overflow_sub-bytes g c =
       i.0,
       ap length i.3,
       length-begun (key_stream_byte c.args.key.now c.args.nonce.now c.args.counter) c.runs.done c.args.bytes.now i.0,
+    )
+
+pub next-x-requires : goal.next-x-requires
+next-x-requires g c =
+    let a : ℕ = c.runs.done in
+    let i = c.runs.invariant in
+    let size = ap length i.3
+    ∙ length-begun (key_stream_byte c.args.key.now c.args.nonce.now c.args.counter) a c.args.bytes.now i.0 in
+    let room : a + g.R.Run.SIZE ≤ length c.args.bytes.now =
+    omega (arith, c.runs-test.true, i.0, size, c.SIZE-size.ensures) in (
+      c.args.key.now,
+      (
+        c.args.nonce.now,
+        (
+          c.args.counter + a / 64,
+          (
+            next_exists c.args.counter a g.R.Run.SIZE _ g.met.R.Run.whole.1 i.1 room c.requires.counters,
+            i.2,
+          ),
+        ),
+      ),
     )
 
 pub take_all-requires : goal.take_all-requires

@@ -5,7 +5,7 @@ use Rattle.octets.proofs.Ends.{all_left}
 use Rattle.octets.specs.Ends.{IsEnd}
 use Rattle.octets.specs.Masked.{masked}
 use Rattle.chacha.specs.Stream.{key_stream_byte}
-use Rattle.chacha.proofs.InterleavedRuns.{interleaved, carried, left_of, front_is, back_is, run_masked, run_ends, left_grows, none_masked}
+use Rattle.chacha.proofs.InterleavedRuns.{interleaved, carried, left_of, front_is, back_is, run_masked, run_ends, left_grows, next_exists, none_masked}
 use Rattle.chacha.proofs.runs.mask_then_hash.Goals as goal
 
 pub runs-init : goal.runs-init
@@ -23,6 +23,25 @@ runs-init g c =
           c.starts_at-start.ensures,
       none_masked f 0 b was,
       λ k m h. g.met.W.BlockWork.grows c.args.hash.now [] (take b was) k m h,
+    )
+
+pub next-x-requires : goal.next-x-requires
+next-x-requires g c =
+    let a : ℕ = c.runs.done - c.args.begun in
+    let i = c.runs.invariant in
+    let room : a + g.R.Run.SIZE ≤ length c.args.bytes.now - c.args.begun =
+    omega (arith, c.runs-test.true, i.0, i.1, c.runs.auto.bytes, c.SIZE-size.ensures) in (
+      c.args.key.now,
+      (
+        c.args.nonce.now,
+        (
+          c.args.counter + a / 64,
+          (
+            next_exists c.args.counter a g.R.Run.SIZE _ g.met.R.Run.whole.1 i.2 room c.requires.counters,
+            i.5,
+          ),
+        ),
+      ),
     )
 
 pub overflow_sub-taken : goal.overflow_sub-taken

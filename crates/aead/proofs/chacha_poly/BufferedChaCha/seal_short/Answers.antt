@@ -14,5 +14,5 @@ returns c =
     let fits : Fits s text = record { aad_fits = c.requires.aad_fits; text_fits = c.requires.text_fits } in
     let out_is = c.xor_into.ensures
     ∙ start_masks_text m.start.now s [] text (64 + length text - 64) refl m.start_is c.requires.covers (omega arith) in
-    seals_one_pass s [] text c.xor_into.new.dst c.tag_over.result refl fits c.tells_bytes.ensures out_is
+    seals_one_pass s [] text c.xor_into.new.dst c.tag_over.result refl fits c.tells_bytes.ensures.bytes out_is
     (c.tag_over.ensures ∙ ap (tag_over s.suite s.key s.nonce s.aad) out_is)

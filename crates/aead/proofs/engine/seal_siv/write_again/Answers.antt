@@ -50,7 +50,7 @@ returns-else-repeats-clause-written g c = λ s first by k h size tag_is.
     (mask_of s (tag_of s first)) c.args.first_length m (g.J.Intake.left c.pass_all.new.intake) (g.O.Outlet.taken c.args.outlet.now)
     (g.O.Outlet.taken c.pass_all.new.outlet) c.pass_all.new.stage (Some c.in-Ok-Some.field-0-0)) went)
     (λ b w. again_differs _ s first b _ _ _ _ _ _ _ _ _ _ size w c.in-Ok-Some.ensures.blame
-    (λ text held r. true≢false (sym ((c.repeats.ensures s first text by k size tag_is held.taken).1 r) ∙ c.if-repeats.false)))
+    (λ text held r. true≢false (sym ((c.repeats.ensures s first text by k size (c.bytes-in-Ok-Some.ensures.value ∙ tag_is) held.taken).1 r) ∙ c.if-repeats.false)))
 
 pub returns-in-Ok-clause-written : goal.returns-in-Ok-clause-written
 returns-in-Ok-clause-written g c = λ s first by k h size tag_is.
@@ -67,7 +67,7 @@ returns-in-Ok-clause-written g c = λ s first by k h size tag_is.
     (mask_of s (tag_of s first)) c.args.first_length m (g.J.Intake.left c.pass_all.new.intake) (g.O.Outlet.taken c.args.outlet.now)
     (g.O.Outlet.taken c.pass_all.new.outlet) c.pass_all.new.stage (Some c.in-Ok-Some.field-0-0)) went)
     (λ b w. again_tag _ s first b c.args.tag.now _ _ 16 _ _ _ _ _ _ _ _ _ _ size w
-    (λ text held. (c.repeats.ensures s first text by k size tag_is held.taken).0 c.if-repeats.true) tag_is
+    (λ text held. (c.repeats.ensures s first text by k size (c.bytes-in-Ok-Some.ensures.value ∙ tag_is) held.taken).0 c.if-repeats.true) tag_is
     (subst R (c.bytes-then-repeats.ensures.value ∙ sym (take_all 16 c.args.tag.now (omega (arith, long))))
     c.in-Ok.ensures.bytes)
     (inl (
@@ -95,6 +95,6 @@ returns-in-Err-give_all-clause-written g c = λ s first by k h size tag_is.
     (mask_of s (tag_of s first)) c.args.first_length m (g.J.Intake.left c.pass_all.new.intake) (g.O.Outlet.taken c.args.outlet.now)
     (g.O.Outlet.taken c.pass_all.new.outlet) c.pass_all.new.stage (Some c.in-Ok-Some.field-0-0)) went)
     (λ b w. again_tag _ s first b c.args.tag.now _ _ given.0 _ _ _ _ _ _ _ _ _ _ size w
-    (λ text held. (c.repeats.ensures s first text by k size tag_is held.taken).0 c.if-repeats.true) tag_is
+    (λ text held. (c.repeats.ensures s first text by k size (c.bytes-in-Ok-Some.ensures.value ∙ tag_is) held.taken).0 c.if-repeats.true) tag_is
     (subst R c.bytes-then-repeats.ensures.value given.2)
     (inr (refl, subst F c.in-Ok-Some.ensures.blame.1 c.in-Err-give_all.ensures.count)))

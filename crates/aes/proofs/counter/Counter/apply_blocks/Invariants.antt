@@ -2,14 +2,14 @@ use Rattle.std.proofs.Common.{◌-◌, length}
 use Rattle.aes.specs.Code.Streams.{AdvancesFront}
 use Rattle.aes.proofs.counter.Counter.apply_blocks.Given as goal
 
-abbrev pub invariant-singles : goal.invariant-singles
-invariant-singles g l = AdvancesFront g.C.Count.up l.key l.fn.self l.self l.fn.bytes l.bytes l.done
+abbrev pub invariant-loop-done : goal.invariant-loop-done
+invariant-loop-done g l = AdvancesFront g.C.Count.up l.key l.fn.self l.self l.fn.bytes l.bytes l.done
 
-abbrev pub decreases-singles : goal.decreases-singles
-decreases-singles g l = length l.bytes - l.done
+abbrev pub decreases-loop-done : goal.decreases-loop-done
+decreases-loop-done g l = length l.bytes - l.done
 
-abbrev pub invariant-pairs : goal.invariant-pairs
-invariant-pairs g l = AdvancesFront g.C.Count.up l.key l.fn.self l.self l.fn.bytes l.bytes l.done
+abbrev pub invariant-loop-bytes : goal.invariant-loop-bytes
+invariant-loop-bytes g l = AdvancesFront g.C.Count.up l.key l.fn.self l.self l.fn.bytes l.bytes l.done
 
-abbrev pub decreases-pairs : goal.decreases-pairs
-decreases-pairs g l = length l.bytes - l.done
+abbrev pub decreases-loop-bytes : goal.decreases-loop-bytes
+decreases-loop-bytes g l = length l.bytes - l.done

@@ -3,23 +3,23 @@ use Rattle.std.proofs.lemmas.List.{length-take-le, length-drop}
 use Rattle.aes.proofs.StreamSteps.{front_none, front_more}
 use Rattle.aes.proofs.counter.Counter.apply_fours.Goals as goal
 
-pub fours-init : goal.fours-init
-fours-init g c = front_none g.C.Count.up c.args.key.now c.args.self.now c.args.bytes.now c.requires
+pub loop-bytes-init : goal.loop-bytes-init
+loop-bytes-init g c = front_none g.C.Count.up c.args.key.now c.args.self.now c.args.bytes.now c.requires
 
-pub fours-preserved : goal.fours-preserved
-fours-preserved g c =
-    let a : ℕ = c.fours.done in
+pub loop-bytes-preserved : goal.loop-bytes-preserved
+loop-bytes-preserved g c =
+    let a : ℕ = c.loop-bytes.done in
     let k : ℕ = a + c.min-next.result - a in
-    let mid = c.fours.bytes in
-    let same : length mid ≡ length c.args.bytes.now = c.fours.auto.bytes in
-    let within : a ≤ length mid = omega (arith, same, c.fours.invariant.within) in
+    let mid = c.loop-bytes.bytes in
+    let same : length mid ≡ length c.args.bytes.now = c.loop-bytes.auto.bytes in
+    let within : a ≤ length mid = omega (arith, same, c.loop-bytes.invariant.within) in
     let room : a + k ≤ length mid = omega (arith, within, c.min-next.ensures) in
     let part : length (take k (drop a mid)) ≡ k =
     length-take-le k (drop a mid) (omega (arith, room, length-drop a mid)) in
-    front_more g.C.Count.up c.args.key.now c.args.self.now c.fours.self c.mask_four.new.self c.args.bytes.now mid
-    c.mask_four.new.bytes a k (a + c.min-next.result) same c.fours.invariant room (omega arith)
+    front_more g.C.Count.up c.args.key.now c.args.self.now c.loop-bytes.self c.mask_four.new.self c.args.bytes.now mid
+    c.mask_four.new.bytes a k (a + c.min-next.result) same c.loop-bytes.invariant room (omega arith)
     (c.mask_four.auto.bytes ∙ part) c.mask_four.ensures.advances
     (λ l. omega (arith, l, part, within, c.min-next.ensures, c.mask_four.ensures.used))
 
-pub returns-then-bytes-le-FOUR_PAY : goal.returns-then-bytes-le-FOUR_PAY
-returns-then-bytes-le-FOUR_PAY g c = front_none g.C.Count.up c.args.key.now c.args.self.now c.args.bytes.now c.requires
+pub returns-then-bytes-four_pay : goal.returns-then-bytes-four_pay
+returns-then-bytes-four_pay g c = front_none g.C.Count.up c.args.key.now c.args.self.now c.args.bytes.now c.requires

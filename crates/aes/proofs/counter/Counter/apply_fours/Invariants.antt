@@ -2,8 +2,8 @@ use Rattle.std.proofs.Common.{◌-◌, length}
 use Rattle.aes.specs.Code.Streams.{AdvancesFront}
 use Rattle.aes.proofs.counter.Counter.apply_fours.Given as goal
 
-abbrev pub invariant-fours : goal.invariant-fours
-invariant-fours g l = AdvancesFront g.C.Count.up l.key l.fn.self l.self l.fn.bytes l.bytes l.done
+abbrev pub invariant-loop-bytes : goal.invariant-loop-bytes
+invariant-loop-bytes g l = AdvancesFront g.C.Count.up l.key l.fn.self l.self l.fn.bytes l.bytes l.done
 
-abbrev pub decreases-fours : goal.decreases-fours
-decreases-fours g l = length l.bytes - l.done
+abbrev pub decreases-loop-bytes : goal.decreases-loop-bytes
+decreases-loop-bytes g l = length l.bytes - l.done

@@ -13,5 +13,5 @@ returns g c =
     c.apply_fours-2.new.bytes a k c.apply_fours-2.result c.apply_sixteens_by-done.auto.bytes
     c.apply_sixteens_by-done.ensures refl (c.apply_fours-2.auto.bytes ∙ part) c.apply_fours-2.ensures
 
-pub returns-then-bytes-le-FOUR_PAY : goal.returns-then-bytes-le-FOUR_PAY
-returns-then-bytes-le-FOUR_PAY g c = front_none g.C.Count.up c.args.key.now c.args.self.now c.args.bytes.now c.requires.none
+pub returns-then-bytes-four_pay : goal.returns-then-bytes-four_pay
+returns-then-bytes-four_pay g c = front_none g.C.Count.up c.args.key.now c.args.self.now c.args.bytes.now c.requires.none

@@ -16,7 +16,7 @@ returns g c = λ knows. record {
       let key = c.args.key.now in
       elim c.if-used-eq0.branch [
         | then-used-eq0 w ↦ absurd (none (c.args.position % 16) some w.if-used-eq0.true)
-        | else-used-eq0 w ↦ w.mask-is ∙ w.encrypt-mask.ensures knows ∙ ap (cipher key) (w.block.ensures
+        | else-used-eq0 w ↦ w.mask-is ∙ w.encrypt-mask.ensures knows ∙ ap (cipher key) (w.block.ensures.value
             ∙ g.met.C.Count.wraps first (c.args.position / 16))
       ];
 }

@@ -14,7 +14,7 @@ returns g c =
     (ap length c.bytes-3.ensures.value ∙ c.bytes-3.ensures.are_bytes.length_is)
     (ap length c.bytes-4.ensures.value ∙ c.bytes-4.ensures.are_bytes.length_is)
     c.concat.ensures
-    (c.bytes.ensures.value ∙ c.block-first.ensures ∙ ap (up first) (sym (add-zero begun))
+    (c.bytes.ensures.value ∙ c.block-first.ensures.value ∙ ap (up first) (sym (add-zero begun))
     ∙ sym (g.met.C.Count.wraps first (begun + 0)))
-    (c.bytes-2.ensures.value ∙ c.block-second.ensures) (c.bytes-3.ensures.value ∙ c.block-third.ensures)
-    (c.bytes-4.ensures.value ∙ c.block-fourth.ensures)
+    (c.bytes-2.ensures.value ∙ c.block-second.ensures.value) (c.bytes-3.ensures.value ∙ c.block-third.ensures.value)
+    (c.bytes-4.ensures.value ∙ c.block-fourth.ensures.value)

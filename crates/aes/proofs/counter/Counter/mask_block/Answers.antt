@@ -11,7 +11,7 @@ returns-clause-advances g c = λ first made held. c.mask_with.ensures.advances c
     let first : q ≡ 0 = omega (arith, h, size) in
     let count : s.block_count ≡ (s.block_count + q) % 2 ^ 32 = omega (arith, first) in
     ap (block_at c.bytes.result.now) first ∙ take_all 16 c.bytes.result.now (omega (arith, size))
-    ∙ c.bytes.ensures.value ∙ c.encrypt_in_registers-mask.ensures.value ∙ ap (cipher c.args.key.now) (c.block.ensures
+    ∙ c.bytes.ensures.value ∙ c.encrypt_in_registers-mask.ensures.value ∙ ap (cipher c.args.key.now) (c.block.ensures.value
     ∙ ap (g.C.Count.up s.first) count)) first made (record {
       first_is = held.first_is;
       block_count_is = held.block_count_is;

@@ -2,8 +2,8 @@ use Rattle.std.proofs.Common.{◌≡◌, ◌+◌, ◌-◌, ◌/◌, ◌%◌, ◌
 use Rattle.aes.specs.Code.Streams.{AdvancesFront}
 use Rattle.aes.proofs.counter.Counter.mask_shared.Given as goal
 
-abbrev pub invariant-runs : goal.invariant-runs
-invariant-runs g l = record {
+abbrev pub invariant-loop-done : goal.invariant-loop-done
+invariant-loop-done g l = record {
   front : AdvancesFront g.C.Count.up l.key l.fn.self l.self l.fn.bytes l.bytes l.done;
   none : l.self.used ≡ 0;
   first : l.self.first ≡ l.fn.self.first;
@@ -11,5 +11,5 @@ invariant-runs g l = record {
   whole : l.done % 256 ≡ 0;
 }
 
-abbrev pub decreases-runs : goal.decreases-runs
-decreases-runs g l = length l.bytes - l.done
+abbrev pub decreases-loop-done : goal.decreases-loop-done
+decreases-loop-done g l = length l.bytes - l.done

@@ -21,7 +21,7 @@ returns g c =
           sixteen_blocks up place g.met.C.Count.wraps counts first c.bytes-2.result.now c.bytes-3.result.now block begun low
           whole (ap (λ (v : ℕ). (v + begun) % 2 ^ 32 % 16)
           (c.from.ensures ∙ ap₂ (λ (v : List ℕ) (p : ℕ). get_or v p 0) c.bytes.ensures.value c.LOW.ensures)) back
-          (c.bytes-2.ensures.value ∙ c.block.ensures) (c.bytes-3.ensures.value ∙ c.block-2.ensures)
+          (c.bytes-2.ensures.value ∙ c.block.ensures.value) (c.bytes-3.ensures.value ∙ c.block-2.ensures.value)
           q ((low + q) / 16) i hq hi refl
           ∙ ap (λ (p : ℕ). bit_xor (get_or (cond ((low + q) / 16 == 0) c.bytes-2.result.now c.bytes-3.result.now) i 0)
           (cond (i == p) ((low + q) % 16) 0)) (sym c.LOW-2.ensures));

@@ -11,6 +11,6 @@ returns g c =
     (ap length c.bytes.ensures.value ∙ c.bytes.ensures.are_bytes.length_is)
     (ap length c.bytes-2.ensures.value ∙ c.bytes-2.ensures.are_bytes.length_is)
     c.concat_two.ensures
-    (c.bytes.ensures.value ∙ c.block-first.ensures ∙ ap (up first) (sym (add-zero begun))
+    (c.bytes.ensures.value ∙ c.block-first.ensures.value ∙ ap (up first) (sym (add-zero begun))
     ∙ sym (g.met.C.Count.wraps first (begun + 0)))
-    (c.bytes-2.ensures.value ∙ c.block-second.ensures)
+    (c.bytes-2.ensures.value ∙ c.block-second.ensures.value)

@@ -3,8 +3,8 @@ use Rattle.aes.specs.Counters.{up_be}
 use Rattle.aes.proofs.StreamSteps.{up_be_written}
 use Rattle.aes.proofs.counter.LastFourCount.block.Goals as goal
 
-pub returns : goal.returns
-returns c =
+pub returns-clause-value : goal.returns-clause-value
+returns-clause-value c =
     let same = c.bytes.ensures.value in
     c.new.ensures.value
     ∙ up_be_written c.bytes.result.now c.write_u32.new.buf c.read_u32-number.result c.args.steps

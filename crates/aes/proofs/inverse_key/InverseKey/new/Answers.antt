@@ -10,23 +10,23 @@ use Rattle.aes.proofs.inverse_key.InverseKey.new.Goals as goal
 holds : {v w : List ℕ} (b : List ℕ) → v ≡ w → HoldsUndone w b → HoldsUndone v b
 holds b e h = subst (λ x. HoldsUndone x b) (sym e) h
 
-pub middle-init : goal.middle-init
-middle-init c =
+pub loop-n-init : goal.loop-n-init
+loop-n-init c =
     let key = c.args.key.now in
     record {
       size = search rules;
-      first = plain_is c.plain_key.result key 0 (search rules) (λ i l. c.plain_key.ensures (omega arith) i l);
+      first = plain_is c.plain_key.result key 0 (search rules) (λ i l. c.plain_key.ensures.bytes (omega arith) i l);
       middle = λ k some h. absurd (omega arith);
     }
 
-pub middle-preserved : goal.middle-preserved
-middle-preserved c =
-    let n = c.middle.n in
-    let ks = c.middle.keys in
+pub loop-n-preserved : goal.loop-n-preserved
+loop-n-preserved c =
+    let n = c.loop-n.n in
+    let ks = c.loop-n.keys in
     let v = c.middle_key.result in
     let key = c.args.key.now in
-    let before = c.middle.invariant in
-    let is = plain_is c.plain_key-in-middle.result key n (search rules) (λ i l. c.plain_key-in-middle.ensures (omega arith) i l) in
+    let before = c.loop-n.invariant in
+    let is = plain_is c.plain_key-in-loop-n.result key n (search rules) (λ i l. c.plain_key-in-loop-n.ensures.bytes (omega arith) i l) in
     record {
       size = search rules;
       first = get_or-set_other ks n 0 v [] (omega arith) ∙ before.first;
@@ -41,10 +41,10 @@ middle-preserved c =
 pub returns : goal.returns
 returns c =
     let key = c.args.key.now in
-    let done = c.middle.invariant in
+    let done = c.loop-n.invariant in
     let rounds = c.rounds-rounds.result in
     let v = c.plain_key-2.result in
-    let ks = c.middle.keys in
+    let ks = c.loop-n.keys in
     record {
       is_key = c.rounds-rounds.ensures.is_key;
       rounds_are = c.rounds-rounds.ensures.count;
@@ -52,5 +52,5 @@ returns c =
       middle = λ n some h. holds (inverse_mix_columns (round_key (schedule key) n)) (get_or-set_other ks rounds n v [] (omega arith))
           (done.middle n some (omega arith));
       last = get_or-set_same ks rounds v [] (omega arith)
-          ∙ plain_is v key rounds (search rules) (λ i l. c.plain_key-2.ensures (omega arith) i l);
+          ∙ plain_is v key rounds (search rules) (λ i l. c.plain_key-2.ensures.bytes (omega arith) i l);
     }

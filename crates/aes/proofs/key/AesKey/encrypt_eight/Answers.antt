@@ -11,12 +11,12 @@ use Rattle.aes.proofs.key.AesKey.encrypt_eight.Goals as goal
 pub returns : goal.returns
 returns c = λ f blocks held.
     let key = c.args.self.now in
-    let k : IsKey key = c.is_key.ensures in
+    let k : IsKey key = c.encrypt_half.ensures.is_key in
     let again : ℕ → List ℕ = λ q. cipher key (f (q % 8)) in
     let made : (q : ℕ) → IsBlock (again q) = λ q. cipher_block key (f (q % 8)) k (blocks (q % 8)) in
     let byte : ℕ → ℕ → ℕ = λ l k. get_or (cipher key (f (l / 16 * 8 + k))) (l % 16) 0 in
     let both = same_bytes c.from_half.result (c.from_half.ensures byte
-    (c.encrypt_half.ensures f blocks (c.lower-half.ensures (block_byte (λ q. rounds (schedule key) 0 (f q))) (c.add_first_key.ensures f held))))
+    (c.encrypt_half.ensures.value f blocks (c.lower-half.ensures (block_byte (λ q. rounds (schedule key) 0 (f q))) (c.add_first_key.ensures f held))))
     (λ l k hl hk.
     let block : l % 16 / 16 * 8 + k ≡ (l / 16 * 8 + k) % 8 = omega (arith, hl, hk) in
     let at : l % 16 % 16 ≡ l % 16 = omega arith in

@@ -13,7 +13,7 @@ returns c = λ q h.
     let block : (q : ℕ) → IsBlock (block_at m (q % 4)) = λ q.
     block_at_is 4 (q % 4) m c.told-blocks c.fits-blocks (omega arith) in
     block_held 4 c.encrypt_lanes.result (λ q. cipher key (block_at m (q % 4))) q
-    (c.encrypt_lanes.ensures (λ q. block_at m (q % 4)) block
+    (c.encrypt_lanes.ensures.value (λ q. block_at m (q % 4)) block
     (holds_self 4 (λ q. q % 4) m c.told-blocks (λ q l. omega (arith, l)))) h
-    (cipher_block key (block_at m (q % 4)) c.is_key.ensures (block q)).length_is
+    (cipher_block key (block_at m (q % 4)) c.encrypt_lanes.ensures.is_key (block q)).length_is
     ∙ ap (λ (i : ℕ). cipher key (block_at m i)) same

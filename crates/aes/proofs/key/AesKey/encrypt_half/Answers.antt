@@ -30,8 +30,8 @@ loop-done-preserved c = λ f blocks held.
     (c.requires.ready.middle (n + 1) (omega arith) (omega arith)))
     (λ l k hl hk. dropped_row ws (n + 1) l)))
 
-pub returns : goal.returns
-returns c = λ f blocks held.
+pub returns-clause-value : goal.returns-clause-value
+returns-clause-value c = λ f blocks held.
     let key = c.args.self.now in
     let ws = schedule key in
     let long = kept_length c.self.inside.keys c.self.inside.size key c.self.invariant c.self.view_is in
@@ -51,3 +51,6 @@ returns c = λ f blocks held.
     (same_bytes _ (c.unpack-2.ensures (λ l k. masked_byte ws last l) final) (λ l k hl hk.
     let same : l ≡ l % 16 = omega (arith, hl) in ap (masked_byte ws last) same ∙ dropped_last ws last l)))
     (λ l k hl hk. ap (λ b. get_or b (l % 16) 0) (final_round key (f (l / 16 * 8 + k)) n before))
+
+pub returns-clause-is_key : goal.returns-clause-is_key
+returns-clause-is_key c = is_key c.self.inside.keys c.self.inside.size c.args.self.now c.self.invariant c.self.view_is

@@ -11,6 +11,6 @@ returns-clause-value c =
     let b : List ℕ = c.bytes.result.now in
     let block : IsBlock b = subst IsBlock (sym c.bytes.ensures.value) c.bytes.ensures.are_bytes in
     c.new.ensures.value
-    ∙ one_held c.encrypt_lanes.result (cipher key b) (cipher_block key b c.is_key.ensures block).length_is
-    (c.encrypt_lanes.ensures (λ q. b) (λ q. block) (holds_one b block.length_is))
+    ∙ one_held c.encrypt_lanes.result (cipher key b) (cipher_block key b c.encrypt_lanes.ensures.is_key block).length_is
+    (c.encrypt_lanes.ensures.value (λ q. b) (λ q. block) (holds_one b block.length_is))
     ∙ ap (cipher key) c.bytes.ensures.value

@@ -33,8 +33,8 @@ loop-done-preserved g c = λ f blocks held.
     (λ i r. rw (get_or-drop (4 * (n + 1)) ws i []) (words (4 * (n + 1) + i) r)) (c.loop-done.invariant f blocks held)
     (λ i l. kept.middle (n + 1) i (omega arith) (omega arith) l ∙ ready_first ws (n + 1) (row_source i)))
 
-pub returns : goal.returns
-returns g c = λ f blocks held.
+pub returns-clause-value : goal.returns-clause-value
+returns-clause-value g c = λ f blocks held.
     let key = c.args.self.now in
     let ws = schedule key in
     let kept = kept_keys c.self.inside.keys c.self.inside.size key c.self.invariant c.self.view_is in
@@ -52,3 +52,6 @@ returns g c = λ f blocks held.
     (c.last.ensures state vs (λ q. rounds_block ws n (f q) words (blocks q)) (c.loop-done.invariant f blocks held)
     (λ i l. ap (λ (m : ℕ). get_or (get_or c.self.inside.keys m []) i 0) count ∙ kept.last i l
     ∙ ap (λ (b : ℕ). bit_xor b 0x63) (word_first ws last i)))
+
+pub returns-clause-is_key : goal.returns-clause-is_key
+returns-clause-is_key g c = is_key c.self.inside.keys c.self.inside.size c.args.self.now c.self.invariant c.self.view_is

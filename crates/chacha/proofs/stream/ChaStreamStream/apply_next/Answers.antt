@@ -1,8 +1,9 @@
 use Rattle.std.proofs.Common.{arith}
-use Rattle.chacha.proofs.Refusals.{never_refused}
 use Rattle.chacha.proofs.stream.ChaStreamStream.apply_next.Goals as goal
 
-pub returns : goal.returns
-returns c = λ key nonce first made held room.
-    never_refused c.apply.result _ _ (c.apply.ensures key nonce first made held)
-    (λ f x. let past = x.past_end in omega (arith, room, past))
+pub returns-in-Ok : goal.returns-in-Ok
+returns-in-Ok c = λ key nonce first made held room. c.in-Ok.ensures key nonce first made held
+
+pub returns-in-Err : goal.returns-in-Err
+returns-in-Err c = λ key nonce first made held room.
+    let past = (c.in-Err.ensures key nonce first made held).past_end in absurd (omega (arith, room, past))

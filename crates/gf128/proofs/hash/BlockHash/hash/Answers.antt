@@ -8,6 +8,6 @@ whole m none = omega (arith, none)
 
 pub returns-clause-value : goal.returns-clause-value
 returns-clause-value x c = λ h m held none.
-    let sum : SumHolds x.O.HashOrder.order x.M.Multiply.key_bytes c.core.result.now h m =
-    rw (take_all (length m / 16 * 16) m (whole m none)) at (c.core.ensures h m held) in
+    let sum : SumHolds x.O.HashOrder.order x.M.Multiply.key_bytes c.args.self.now.pieces.core h m =
+    rw (take_all (length m / 16 * 16) m (whole m none)) at held.taken in
     c.hash_of.ensures.value h _ m sum.serves sum.sum_is

@@ -1,7 +1,4 @@
 use Rattle.gf128.proofs.table_mul.TableMulMultiply.times_all.Goals as goal
 
-pub returns-then-blocks-lt-MANY : goal.returns-then-blocks-lt-MANY
-returns-then-blocks-lt-MANY g c = c.times_few.ensures c.args.self.now.word c.args.self.now.filled
-
-pub times_many-requires : goal.times_many-requires
-times_many-requires g c = c.args.self.now.filled
+pub returns : goal.returns
+returns g c = rw c.lent.ensures at c.times_all.ensures

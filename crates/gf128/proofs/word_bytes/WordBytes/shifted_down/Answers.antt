@@ -9,5 +9,5 @@ pub returns : goal.returns
 returns c =
     let a = c.args.self in
     let e = c.args.count in
-    c.xor.ensures ∙ ap₂ bit_xor (c.up-carried.ensures ∙ ap (halves_up (64 - e)) c.half_down.ensures) c.down.ensures
+    c.xor.ensures ∙ ap₂ bit_xor (c.up-carried.ensures.shifted ∙ ap (halves_up (64 - e)) c.half_down.ensures) c.down.ensures
     ∙ shifted_is (le a.bytes) (64 - e) e (omega (arith, c.requires.within)) (le_block a.bytes a.is_block)

@@ -12,9 +12,8 @@ use Rattle.poly1305.proofs.poly.PolyBy.tag.Goals.{then-rest-gt0, else-rest-gt0}
 pub returns-clause-value : goal.returns-clause-value
 unfolding poly1305
 returns-clause-value g c = λ k m held.
-    let core = c.core-core.result.now in
-    let taken : PolySumHolds g.M.Multiplier.factor core k (take (length m / 16 * 16) m) =
-    c.core-core.ensures k m held in
+    let core = c.args.self.now.pieces.core in
+    let taken : PolySumHolds g.M.Multiplier.factor core k (take (length m / 16 * 16) m) = held.taken in
     let rest : c.rest-rest.result.now ≡ drop (length m / 16 * 16) m = c.rest-rest.ensures.value k m held in
     let value : Sum → ℕ = λ r. pair r.low r.high % prime in
     let total : value c.if-rest-gt0.sum ≡ block_sum (r_of k) m (block_count m) % prime =

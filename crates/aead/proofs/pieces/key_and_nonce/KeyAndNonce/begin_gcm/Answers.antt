@@ -9,10 +9,9 @@ pub message_secret-requires : goal.message_secret-requires
 message_secret-requires c = c.requires.ghash_key ∙ ap hash_key (sym c.requires.cipher)
 
 pub returns : goal.returns
-returns c =
-    let s : Setting = setting_of c.args.suite c.args.key.now c.args.nonce.now c.args.aad.now in (
-      has_keys c.of.result s c.args.key.now (ap (λ (x : Construction). cipher_key x s) (sym c.requires.by))
-          c.requires.long c.requires.long c.of.ensures.nonce_length c.of.ensures.key c.of.ensures.padded
-          c.of.ensures.nonce,
-      c.initial_state.ensures s c.requires.by (c.message_secret.ensures s (sym c.requires.cipher) refl) refl c.requires.fits,
+returns c = λ suite by long fits.
+    let s : Setting = setting_of suite c.args.key.now c.args.nonce.now c.args.aad.now in (
+      has_keys c.of.result s c.args.key.now (ap (λ (x : Construction). cipher_key x s) (sym by)) long long
+          c.of.ensures.nonce_length c.of.ensures.key c.of.ensures.padded c.of.ensures.nonce,
+      c.initial_state.ensures s by (c.message_secret.ensures s (sym c.requires.cipher) refl) refl fits,
     )

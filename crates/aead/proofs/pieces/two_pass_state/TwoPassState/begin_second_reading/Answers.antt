@@ -1,11 +1,13 @@
-use Rattle.std.proofs.Common.{sym, subst, arith, ◌∙◌}
+use Rattle.std.proofs.Common.{sym, ap, subst, arith, ◌∙◌}
 use Rattle.aead.specs.declared.pieces.pass_state.SumWords.{SumWords}
+use Rattle.aead.specs.Suites.{is_one_pass}
 use Rattle.aead.specs.PassStates.{IsStart}
+use Rattle.aead.proofs.Opens.{two_pass_tag}
 use Rattle.aead.proofs.pieces.two_pass_state.TwoPassState.begin_second_reading.Goals as goal
 
 pub returns : goal.returns
 returns c = λ s text by k n.
-    let tag_is = c.reading_tag-tag.ensures s text by k n.pass in
+    let tag_is = c.tag-tag.ensures s text k n.pass ∙ sym (two_pass_tag s text (ap is_one_pass by)) in
     let next = c.second.ensures in (
       tag_is,
       record {

@@ -1,0 +1,20 @@
+use Rattle.std.proofs.Common.{sym, subst}
+use Rattle.std.specs.Int.{w128, to_be_bytes}
+use Rattle.octets.specs.Bytes.{le}
+use Rattle.gf128.specs.Code.Words.{IsFourProducts}
+use Rattle.gf128.proofs.FourLooked.{four_looked}
+use Rattle.gf128.proofs.wide_mul.WideMulFourProducts.times_four.Goals as goal
+
+pub returns : goal.returns
+returns c =
+    let s = c.args.self.now in
+    let a = c.of-fourth.result.word in
+    let b = c.of-third.result.word in
+    let y = c.of-second.result.word in
+    let z = c.of-first.result.word in
+    let is = four_looked s.first.word s.second.word s.third.word s.fourth.word s.first.multiples.high s.first.multiples.low
+    s.second.multiples.high s.second.multiples.low s.third.multiples.high s.third.multiples.low s.fourth.multiples.high s.fourth.multiples.low
+    a.bytes b.bytes y.bytes z.bytes a.is_block b.is_block y.is_block z.is_block s.second_power s.third_power s.fourth_power
+    s.first.filled s.second.filled s.third.filled s.fourth.filled in
+    rw (c.of-fourth.ensures, c.of-third.ensures, c.of-second.ensures, c.of-first.ensures) at
+    (subst (IsFourProducts (le a.bytes) (le b.bytes) (le y.bytes) (le z.bytes) (to_be_bytes w128 s.first.word)) (sym c.placed_sum.ensures) is)
