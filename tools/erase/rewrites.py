@@ -67,8 +67,6 @@ REWRITES = [
      "Rust's trait has another signature"),
     ("crates/poly1305/src/partial_sum.rt", "fn clone(&self) -> Result<PartialSum<'a, M>, AllocError> { Ok(*self) }",
      "fn clone(&self) -> Self { *self }", "Rust's trait has another signature"),
-    (OCTETS + "vector_width.rt", "pub const WIDE: bool = false;", "pub const WIDE: bool = crate::simd::WIDE;",
-     "the module of vectors says what the target has"),
     (OCTETS + "vector_width.rt", "pub fn wide() -> bool { false }", "pub fn wide() -> bool { crate::simd::WIDE }",
      "the module of vectors says what the target has"),
     ("crates/chacha/src/lanes.rt", "(z << Simd::splat(n)) | (z >> Simd::splat(32 - n))", "z.rotate_left(n)",

@@ -9,8 +9,8 @@ use std::io::Read;
 /// meanwhile, and that is a failure; so is an interrupted read. Contracts know the bytes left if they know those of the reader.
 pub struct FileIntake<R> {
     reader: R,
-    // How many bytes of that length have not been read yet. Without it, sealing a file onto another name of the
-    // file would end with status 0 and a part of the text.
+    // How many bytes of that length have not been read yet. Without it, sealing a file that is truncated meanwhile
+    // would end with status 0 and a part of the text.
     owed: u64,
     failures: Failures,
 }

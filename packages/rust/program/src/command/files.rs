@@ -3,6 +3,7 @@
 
 use crate::command::commands::aead_inputs;
 use crate::command::failure::Failure;
+use crate::command::identity::is_one_file;
 use crate::command::new_file::NewFile;
 use crate::command::readings::reading;
 use crate::command::storage::Storage;
@@ -82,13 +83,17 @@ fn run_command<A: Allocator, F: Storage, O: Outlet>(
     Ok(run_engine(files, words, &inputs.cipher, &inputs.nonce, &inputs.aad, out)?)
 }
 
-// Runs a file command into a file that is not made before it is needed, and returns status 0.
+// Runs a file command into a file that is not made before it is needed, and returns status 0. `Words` if it would be made over
+// the file to read.
 fn write_file<'a, A: Allocator, B: Allocator, F: Storage>(
     alloc: &A,
     files: &F,
     words: &FileRequest<'_>,
     file: &mut NewFile<'a, F, B>,
 ) -> Result<u8, Failure> {
+    if is_one_file(files.identity(words.input), files.identity(words.output)) {
+        return Err(Failure::Words);
+    }
     run_command(alloc, files, words, file)?;
     file.finish()?;
     Ok(0)
@@ -97,7 +102,8 @@ fn write_file<'a, A: Allocator, B: Allocator, F: Storage>(
 /// `seal-file` and `open-file`: seals or opens a file into another one, and returns status 0. The written file is
 /// closed when this returns.
 ///
-/// Faults, in this order: those of the inputs, `Read` if the file can't be opened, and those of the engine;
+/// Faults, in this order: `Words` if both paths lead to one file, as a link does, those of the inputs, `Read` if the file can't
+/// be opened, and those of the engine;
 /// `OutOfMemory` wherever an allocation fails. The engine's faults for sealing are `AadTooLong`, `TextTooLong` once more than
 /// the suite's limit was read, `Read`, `Write`, and for AES-GCM-SIV `SourceChanged`. For opening they are `AadTooLong`, then
 /// those of its three readings: nothing is written before authentication of a whole reading has succeeded.

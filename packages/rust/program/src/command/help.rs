@@ -35,7 +35,7 @@ program:
                     not UTF-8. Likely causes: a variable in the place of a
                     value is not set and not quoted; an option is missing,
                     misspelt or given twice; a value begins with - (write
-                    --text=VALUE); IN and OUT are the same word
+                    --text=VALUE); IN and OUT are one file
   UnknownSuite   2  the value of --suite is not the name of a suite
   BadHex         2  a value given for HEX is not an even number of hex digits
   KeyLength      2  the key is not as long as the suite says; for key wrap,
@@ -51,7 +51,7 @@ program:
                     suite, key, nonce and associated data
   WrapIntegrity  1  authentication failed: not a valid wrapping under this key
   Read           3  a file can't be opened or read, or it was truncated while
-                    it was read, as IN is if OUT is another name of it
+                    it was read
   Write          3  standard output failed, or OUT can't be created or written
   SourceChanged  3  a later reading of IN differs from an earlier one: IN was
                     changed meanwhile, or it is a pipe, which has no bytes
@@ -113,8 +113,7 @@ stored before it is used is the safest.
 
 IN is read once, for AES-GCM-SIV twice. A pipe can't be read twice, and ends
 with SourceChanged.
-OUT must not be another name of IN: a file of more than 64 KiB is then lost,
-with status 3 and Read.
+An OUT that is IN under another name is refused with Words, and IN stays.
 
 To print into a file use a pipe, --out /dev/stdout | cat > FILE: /dev/stdout
 truncates a file. The status is that of cat then, unless the shell's option
@@ -136,8 +135,7 @@ The suite, the key, the nonce and the associated data are those that the file
 was sealed with.
 
 IN is read three times. A pipe can't be, and ends with SourceChanged.
-OUT must not be another name of IN: a file of more than 64 KiB is then lost,
-with status 3 and Read.
+An OUT that is IN under another name is refused with Words, and IN stays.
 
 To print into a file use a pipe, --out /dev/stdout | cat > FILE: /dev/stdout
 truncates a file. The status is that of cat then, unless the shell's option

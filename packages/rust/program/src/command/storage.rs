@@ -2,6 +2,7 @@
 //! Files by name.
 
 use crate::command::file_intake::{FileIntake, regular_length};
+use crate::command::identity::Identity;
 use crate::kit::alloc::Allocator;
 use crate::kit::fs;
 use crate::kit::fs::Files;
@@ -24,6 +25,9 @@ pub trait Storage {
 
     /// Opens a file for a reading, at its beginning.
     fn open(&self, path: &str, reading: u8) -> io::Result<Self::Input>;
+
+    /// Returns the identity of the file that a path leads to, or `None` if there is no file that can be compared.
+    fn identity(&self, path: &str) -> Option<Identity>;
 
     /// Creates a file, or truncates it.
     fn create(&self, path: &str) -> io::Result<Self::Output>;
@@ -49,6 +53,14 @@ impl<R: Files, A: Allocator + Copy> Storage for Disk<'_, R, A> {
         let length = regular_length(&file);
         let reader = BufReader::with_capacity(self.alloc, AHEAD, file)?;
         Ok(FileIntake::new(reader, length))
+    }
+
+    // If the system doesn't say what a path leads to, there is no file yet, or opening it says why.
+    fn identity(&self, path: &str) -> Option<Identity> {
+        match fs::metadata(self.runtime, path) {
+            Ok(about) => Identity::of(&about),
+            Err(_) => None,
+        }
     }
 
     fn create(&self, path: &str) -> io::Result<ToWrite<R::File>> {

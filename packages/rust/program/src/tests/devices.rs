@@ -1,7 +1,7 @@
 // Made from crates/aeadkit/src/tests/devices.rt by tools/erase: not to be edited.
 //! One file in memory, a writer that fails, one that halts, and one that has to be flushed.
 
-use crate::command::Storage;
+use crate::command::{Identity, Storage};
 use crate::kit::alloc::Vec;
 use aeadkit::internals::octets::{FromRead, ToWrite};
 use std::io;
@@ -27,6 +27,10 @@ impl<'a> Storage for OneFile<'a> {
             Some(kind) if !self.opens => Err(io::Error::from(kind)),
             failure => Ok(FromRead::new(Source { rest: self.bytes, failure })),
         }
+    }
+
+    fn identity(&self, _path: &str) -> Option<Identity> {
+        None
     }
 
     fn create(&self, _path: &str) -> io::Result<ToWrite<FailsAfter>> {

@@ -3,7 +3,7 @@
 //! the key of Poly1305.
 
 use crate::proved::aead::hashes::TagHash;
-use crate::proved::aead::interleaved::{mask_and_hash, pays};
+use crate::proved::aead::interleaved::{mask_first_interleaved, pays};
 use crate::proved::aead::mask::MaskStream;
 use crate::proved::aead::step::MaskWith;
 use crate::proved::chacha::ChaStream;
@@ -28,12 +28,12 @@ impl<'a> BufferedStream<'a> {
     // Masks a piece and hashes it as it leaves, interleaved. This is a separate function, since its frame would slow down short
     // pieces.
     #[inline(never)]
-    fn mask_and_hash(&mut self, hash: &mut Poly, piece: &mut [u8]) {
+    fn mask_first_interleaved(&mut self, hash: &mut Poly, piece: &mut [u8]) {
         let n = piece.len().min(self.start.len() - self.used);
         let (first, _) = piece.split_at_mut(n);
         xor_into(first, &self.start[self.used..self.used + n]);
         self.used += n;
-        mask_and_hash(&mut self.rest, hash, piece, n);
+        mask_first_interleaved(&mut self.rest, hash, piece, n);
     }
 }
 
@@ -43,8 +43,7 @@ impl<'a> Stream for BufferedStream<'a> {
         let (first, last) = bytes.split_at_mut(n);
         xor_into(first, &self.start[self.used..self.used + n]);
         self.used += n;
-        // Within the limit of a text the key stream does not end.
-        let _ = self.rest.apply(last);
+        self.rest.apply_next(last);
     }
 }
 
@@ -55,7 +54,7 @@ impl<'a> MaskWith<Poly> for BufferedStream<'a> {
     #[inline(always)]
     fn mask_first(&mut self, hash: &mut Poly, piece: &mut [u8]) {
         if pays(hash, self.start.len() - self.used, piece.len()) {
-            self.mask_and_hash(hash, piece);
+            self.mask_first_interleaved(hash, piece);
             return;
         }
         self.apply_to(piece);

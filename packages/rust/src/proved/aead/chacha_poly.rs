@@ -1,6 +1,10 @@
 // Made from crates/aead/src/chacha_poly.rt by tools/erase: not to be edited.
 //! The cipher ChaCha20-Poly1305 (RFC 8439, 2.8). The block with counter 0 begins with the key of Poly1305, and the text is
 //! masked from counter 1 on.
+//!
+//! A text that the first blocks of the key stream cover goes its own way, by `seal_short` and `open_short`. All other texts go
+//! through `one_pass`, by `BufferedChaCha` or `NoncedChaCha`. A change keeps alike in both where the key of Poly1305 and the mask
+//! begin, that the hash is over the ciphertext, and that `open_fitting` compares the tags before it decrypts a byte.
 
 use crate::proved::aead::aead::Aead;
 use crate::proved::aead::authenticator::Authenticator;
@@ -33,7 +37,7 @@ impl ChaChaPoly {
 
     // Seals a text. The first blocks of the key stream are made together, as many as `S` says.
     #[inline(never)]
-    fn seal_from<S: KeyStreamStart>(&self, nonce: &Nonce, aad: &[u8], text: &mut [u8]) -> Tag {
+    fn seal_at_once<S: KeyStreamStart>(&self, nonce: &Nonce, aad: &[u8], text: &mut [u8]) -> Tag {
         let key = &self.key;
         let mut first = S::zeros();
         first.set(key, nonce);
@@ -47,7 +51,13 @@ impl ChaChaPoly {
 
     // Opens a ciphertext. The first blocks of the key stream are made together, as many as `S` says.
     #[inline(never)]
-    fn open_from<S: KeyStreamStart>(&self, nonce: &Nonce, aad: &[u8], body: &mut [u8], tag: &Tag) -> Result<(), Fault> {
+    fn open_at_once<S: KeyStreamStart>(
+        &self,
+        nonce: &Nonce,
+        aad: &[u8],
+        body: &mut [u8],
+        tag: &Tag,
+    ) -> Result<(), Fault> {
         let key = &self.key;
         let mut first = S::zeros();
         first.set(key, nonce);
@@ -171,23 +181,23 @@ impl Aead for ChaChaPoly {
 
     fn seal_fitting(&self, nonce: &Nonce, aad: &[u8], text: &mut [u8]) -> Tag {
         match BlocksAtOnce::for_text(text.len()) {
-            BlocksAtOnce::Two => self.seal_from::<TwoBlocks>(nonce, aad, text),
-            BlocksAtOnce::Three => self.seal_from::<ThreeBlocks>(nonce, aad, text),
-            BlocksAtOnce::Four => self.seal_from::<FourBlocks>(nonce, aad, text),
-            BlocksAtOnce::Five => self.seal_from::<FiveBlocks>(nonce, aad, text),
-            BlocksAtOnce::Six => self.seal_from::<SixBlocks>(nonce, aad, text),
-            BlocksAtOnce::Eight => self.seal_from::<EightBlocks>(nonce, aad, text),
+            BlocksAtOnce::Two => self.seal_at_once::<TwoBlocks>(nonce, aad, text),
+            BlocksAtOnce::Three => self.seal_at_once::<ThreeBlocks>(nonce, aad, text),
+            BlocksAtOnce::Four => self.seal_at_once::<FourBlocks>(nonce, aad, text),
+            BlocksAtOnce::Five => self.seal_at_once::<FiveBlocks>(nonce, aad, text),
+            BlocksAtOnce::Six => self.seal_at_once::<SixBlocks>(nonce, aad, text),
+            BlocksAtOnce::Eight => self.seal_at_once::<EightBlocks>(nonce, aad, text),
         }
     }
 
     fn open_fitting(&self, nonce: &Nonce, aad: &[u8], body: &mut [u8], tag: &Tag) -> Result<(), Fault> {
         match BlocksAtOnce::for_text(body.len()) {
-            BlocksAtOnce::Two => self.open_from::<TwoBlocks>(nonce, aad, body, tag),
-            BlocksAtOnce::Three => self.open_from::<ThreeBlocks>(nonce, aad, body, tag),
-            BlocksAtOnce::Four => self.open_from::<FourBlocks>(nonce, aad, body, tag),
-            BlocksAtOnce::Five => self.open_from::<FiveBlocks>(nonce, aad, body, tag),
-            BlocksAtOnce::Six => self.open_from::<SixBlocks>(nonce, aad, body, tag),
-            BlocksAtOnce::Eight => self.open_from::<EightBlocks>(nonce, aad, body, tag),
+            BlocksAtOnce::Two => self.open_at_once::<TwoBlocks>(nonce, aad, body, tag),
+            BlocksAtOnce::Three => self.open_at_once::<ThreeBlocks>(nonce, aad, body, tag),
+            BlocksAtOnce::Four => self.open_at_once::<FourBlocks>(nonce, aad, body, tag),
+            BlocksAtOnce::Five => self.open_at_once::<FiveBlocks>(nonce, aad, body, tag),
+            BlocksAtOnce::Six => self.open_at_once::<SixBlocks>(nonce, aad, body, tag),
+            BlocksAtOnce::Eight => self.open_at_once::<EightBlocks>(nonce, aad, body, tag),
         }
     }
 

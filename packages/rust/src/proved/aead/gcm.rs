@@ -1,5 +1,9 @@
 // Made from crates/aead/src/gcm.rt by tools/erase: not to be edited.
 //! The cipher AES-GCM (SP 800-38D, 7), with nonces of 12 bytes.
+//!
+//! A short text goes its own way: `seal_short` and `open_short` encrypt J0 and the counter blocks in one call. All other texts go
+//! through `one_pass`, by `NoncedGcm`. A change keeps alike in both: the block with counter 1, which is J0, masks the tag; the
+//! blocks from counter 2 on mask the text; the hash is over the ciphertext; and no byte is decrypted before the tags are compared.
 
 use crate::proved::aead::aead::Aead;
 use crate::proved::aead::authenticator::Authenticator;
@@ -7,7 +11,7 @@ use crate::proved::aead::one_pass::{OnePass, open_whole, seal_whole};
 use crate::proved::aead::suite::Suite;
 use crate::proved::aes::{AesKey, CtrBe};
 use crate::proved::gf128::{Ghash, Keyed128, Multiply, TableMul, WideMul};
-use crate::proved::octets::{Block, Fault, Nonce, Tag, WIDE, joined, le_bytes, same, xor_into, xored};
+use crate::proved::octets::{Block, Fault, Nonce, Tag, joined, le_bytes, same, wide, xor_into, xored};
 
 /// AES-GCM under a key of 16, 24 or 32 bytes (SP 800-38D). Opening in place authenticates before it
 /// changes a byte. Contracts see its suite and key.
@@ -82,7 +86,7 @@ pub(in crate::proved::aead) fn nonce_and_counter(nonce: &Nonce, counter: u8) -> 
 // Without vectors of 32 bytes, a pair and J0 apart take less time than four.
 #[inline(always)]
 fn is_short(count: usize) -> bool {
-    0 < count && count <= 48 && (WIDE || count <= 16 || 32 < count)
+    0 < count && count <= 48 && (wide() || count <= 16 || 32 < count)
 }
 
 // Returns J0 and the counter block after it (SP 800-38D, 7.1).

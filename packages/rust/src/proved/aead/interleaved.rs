@@ -18,7 +18,12 @@ pub(in crate::proved::aead) fn pays(hash: &Poly, ready: usize, count: usize) -> 
 // Masks a piece after its first `begun` bytes, which are masked, and hashes all of it as it leaves. This is a separate function, as
 // the next one is, since its frame would slow down short pieces.
 #[inline(never)]
-pub(in crate::proved::aead) fn mask_and_hash(mask: &mut ChaStream, hash: &mut Poly, piece: &mut [u8], begun: usize) {
+pub(in crate::proved::aead) fn mask_first_interleaved(
+    mask: &mut ChaStream,
+    hash: &mut Poly,
+    piece: &mut [u8],
+    begun: usize,
+) {
     let whole = piece.len() / 16 * 16;
     let mut partial = hash.partial_sum();
     mask.apply_and_hash(piece, begun, &mut partial);
@@ -29,7 +34,7 @@ pub(in crate::proved::aead) fn mask_and_hash(mask: &mut ChaStream, hash: &mut Po
 
 // Hashes a piece as it comes, and masks it.
 #[inline(never)]
-fn hash_and_mask(mask: &mut ChaStream, hash: &mut Poly, piece: &mut [u8]) {
+fn hash_first_interleaved(mask: &mut ChaStream, hash: &mut Poly, piece: &mut [u8]) {
     let whole = piece.len() / 16 * 16;
     let count = piece.len() - whole;
     let rest = padded(&piece[whole..]);
@@ -44,7 +49,7 @@ impl MaskWith<Poly> for ChaStream {
     #[inline(always)]
     fn mask_first(&mut self, hash: &mut Poly, piece: &mut [u8]) {
         if pays(hash, 0, piece.len()) {
-            mask_and_hash(self, hash, piece, 0);
+            mask_first_interleaved(self, hash, piece, 0);
             return;
         }
         self.apply_to(piece);
@@ -54,7 +59,7 @@ impl MaskWith<Poly> for ChaStream {
     #[inline(always)]
     fn hash_first(&mut self, hash: &mut Poly, piece: &mut [u8]) {
         if pays(hash, 0, piece.len()) {
-            hash_and_mask(self, hash, piece);
+            hash_first_interleaved(self, hash, piece);
             return;
         }
         hash.take_in(piece);

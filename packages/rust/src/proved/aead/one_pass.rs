@@ -1,5 +1,7 @@
 // Made from crates/aead/src/one_pass.rt by tools/erase: not to be edited.
 //! The construction whose tag is over the ciphertext: ChaCha20-Poly1305 (RFC 8439, 2.8) and AES-GCM (SP 800-38D, 7).
+//! Short texts have a way of their own in `gcm` and in `chacha_poly`: the same steps in the same order as `seal_whole` and
+//! `open_whole`, so a change to one is made to all three.
 
 use crate::proved::aead::authenticator::Authenticator;
 use crate::proved::aead::hashes::TagHash;

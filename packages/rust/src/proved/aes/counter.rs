@@ -8,7 +8,7 @@ use crate::proved::aes::first_round::{share_round, sixteen_states};
 use crate::proved::aes::key::AesKey;
 use crate::proved::aes::key_planes::RoundKeyPlanes;
 use crate::proved::aes::planes::Planes;
-use crate::proved::octets::{Block, Stream, WIDE, same, xor_into};
+use crate::proved::octets::{Block, Stream, same, wide, xor_into};
 use crate::simd::u8x16;
 use core::marker::PhantomData;
 
@@ -130,25 +130,40 @@ impl KnownBlock {
 }
 
 // The shortest text, in bytes, for which making the round keys in planes pays.
-const PLANES_PAY: usize = if WIDE { 193 } else { 97 };
+#[inline(always)]
+fn planes_pay() -> usize {
+    if wide() { 193 } else { 97 }
+}
 
 // A run of four blocks pays for texts longer than this many bytes.
-const FOUR_PAY: usize = if WIDE { 32 } else { 48 };
+#[inline(always)]
+fn four_pay() -> usize {
+    if wide() { 32 } else { 48 }
+}
 
 // Once the key is in planes, a run of sixteen blocks pays for texts longer than this many bytes. In the default build, where a
 // plane takes two registers, it is a run of eight blocks that pays.
-const SIXTEEN_PAY: usize = if WIDE { 96 } else { 64 };
+#[inline(always)]
+fn sixteen_pay() -> usize {
+    if wide() { 96 } else { 64 }
+}
 
 // Up to this many bytes, a run of eight blocks followed by shorter runs takes no longer than one run of sixteen.
-const EIGHT_PAY: usize = if WIDE { 0 } else { 192 };
+#[inline(always)]
+fn eight_pay() -> usize {
+    if wide() { 0 } else { 192 }
+}
 
-// From this many runs of sixteen blocks on, it pays to share their first round.
-const SHARED_PAY: usize = if WIDE { 4 } else { 3 };
+// For more runs of sixteen blocks than this it pays to share their first round.
+#[inline(always)]
+fn shared_pay() -> usize {
+    if wide() { 3 } else { 2 }
+}
 
 // How many of the remaining bytes the next run masks.
 #[inline(always)]
 fn run_of(left: usize) -> usize {
-    left.min(if left > EIGHT_PAY { 256 } else { 128 })
+    left.min(if left > eight_pay() { 256 } else { 128 })
 }
 
 // The state of a stream without its key: the first block; the number of blocks of which bytes were used, modulo 2^32; and the
@@ -288,7 +303,6 @@ impl<C: Count> Counter<C> {
     #[inline(never)]
     fn mask_shared(&mut self, key: &AesKey, words: &RoundKeyPlanes, bytes: &mut [u8]) {
         C::counts_in_byte();
-        let _first = self.first.bytes();
         let block = C::block(&self.first, self.block_count);
         let mut base = [u8x16::splat(0); 8];
         let mut columns = [[[0; 16]; 4]; 8];
@@ -301,9 +315,9 @@ impl<C: Count> Counter<C> {
         }
     }
 
-    // XORs in the first bytes of the next sixteen blocks, or more whole runs of sixteen that can share their first round. Every earlier
-    // block is used up.
-    fn mask_sixteen(&mut self, key: &AesKey, words: &RoundKeyPlanes, bytes: &mut [u8]) {
+    // XORs in a run as long as `next_run` says: the first bytes of the next sixteen blocks, or more whole runs of sixteen that can share
+    // their first round. Every earlier block is used up.
+    fn mask_run(&mut self, key: &AesKey, words: &RoundKeyPlanes, bytes: &mut [u8]) {
         // The length of a whole run is a constant here, so it is XORed from registers.
         if bytes.len() == 256 {
             let start = key.add_first_key(words, self.sixteen());
@@ -314,14 +328,14 @@ impl<C: Count> Counter<C> {
             self.mask_shared(key, words, bytes);
             return;
         }
-        if !WIDE && bytes.len() <= 128 {
+        if !wide() && bytes.len() <= 128 {
             self.mask_eight(key, words, bytes);
             return;
         }
         self.mask_part(key, words, bytes);
     }
 
-    // How many of the remaining bytes `mask_sixteen` masks next: more than one run only before the counter's byte at `LOW` passes 255,
+    // How many of the remaining bytes `mask_run` masks next: more than one run only before the counter's byte at `LOW` passes 255,
     // and only where a branch may depend on that byte.
     fn next_run(&self, left: usize) -> usize {
         if !C::OF_NONCE {
@@ -331,7 +345,7 @@ impl<C: Count> Counter<C> {
         let block = C::block(&self.first, self.block_count);
         let before = 256 - usize::from(block.bytes()[C::LOW]);
         let runs = (before / 16).min(8).min(left / 256);
-        if runs >= SHARED_PAY {
+        if runs > shared_pay() {
             return 256 * runs;
         }
         run_of(left)
@@ -342,9 +356,9 @@ impl<C: Count> Counter<C> {
     #[inline(never)]
     fn apply_sixteens(&mut self, key: &AesKey, words: &RoundKeyPlanes, bytes: &mut [u8]) -> usize {
         let mut done = 0;
-        while bytes.len() - done > SIXTEEN_PAY {
+        while bytes.len() - done > sixteen_pay() {
             let next = self.next_run(bytes.len() - done);
-            self.mask_sixteen(key, words, &mut bytes[done..done + next]);
+            self.mask_run(key, words, &mut bytes[done..done + next]);
             done += next;
         }
         done
@@ -369,11 +383,11 @@ impl<C: Count> Counter<C> {
 
     // XORs in runs of four blocks while they pay, the last one perhaps in part, and returns how many bytes it masked.
     fn apply_fours(&mut self, key: &AesKey, bytes: &mut [u8]) -> usize {
-        if bytes.len() <= FOUR_PAY {
+        if bytes.len() <= four_pay() {
             return 0;
         }
         let mut done = 0;
-        while bytes.len() - done > FOUR_PAY {
+        while bytes.len() - done > four_pay() {
             let next = (bytes.len() - done).min(64);
             self.mask_four(key, &mut bytes[done..done + next]);
             done += next;
@@ -384,10 +398,10 @@ impl<C: Count> Counter<C> {
     // XORs in runs of sixteen and then of four blocks, and returns how many bytes it masked.
     fn apply_runs(&mut self, key: &AesKey, planes: Option<&RoundKeyPlanes>, bytes: &mut [u8]) -> usize {
         // A short text returns here, without the call: `apply_fours` would mask nothing.
-        if bytes.len() <= FOUR_PAY {
+        if bytes.len() <= four_pay() {
             return 0;
         }
-        if bytes.len() < PLANES_PAY {
+        if bytes.len() < planes_pay() {
             return self.apply_fours(key, bytes);
         }
         let done = self.apply_sixteens_by(key, planes, bytes);

@@ -102,7 +102,6 @@ pub(in crate::proved::aes) fn share_round(
     block: &[u8; 16],
     place: usize,
 ) {
-    key.is_key();
     let first_key = key.plain_key(0);
     let mut start = (u8x16::from_array(*block) ^ u8x16::from_array(first_key)).to_array();
     // The S-box without its constant takes 0 to 0.

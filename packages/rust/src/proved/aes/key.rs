@@ -10,7 +10,7 @@ use crate::proved::aes::lanes::{Lanes, from_basis};
 use crate::proved::aes::planes;
 use crate::proved::aes::planes::{BitPlanes, HalfPlanes, Planes, both_halves, lower, upper};
 use crate::proved::aes::schedule::expand;
-use crate::proved::octets::{Block, Fault, Key16, Key24, Key32, WIDE};
+use crate::proved::octets::{Block, Fault, Key16, Key24, Key32, wide};
 use crate::simd::{u8x16, u8x32, u8x64};
 
 /// A key of AES with its round keys (FIPS 197, 5.2). Contracts see the key's bytes: 16, 24 or 32.
@@ -76,7 +76,6 @@ impl AesKey {
     // The number of rounds (FIPS 197, 5).
     #[inline(always)]
     pub(in crate::proved::aes) fn rounds(&self) -> usize {
-        self.is_key();
         self.size + 6
     }
 
@@ -96,7 +95,6 @@ impl AesKey {
     // The four words of a round key, as columns.
     #[inline(always)]
     fn round_key(&self, n: usize) -> [u32; 4] {
-        self.is_key();
         load(&self.plain_key(n))
     }
 
@@ -130,19 +128,16 @@ impl AesKey {
     /// Returns the block of 16 bytes that the cipher takes `block` to, as `encrypt` does (FIPS 197, 5.1).
     #[inline(always)]
     pub fn encrypt_in_registers(&self, block: &Block) -> Block {
-        self.is_key();
         Block::new(self.encrypt_lanes(u8x16::from_array(*block.bytes())).to_array())
     }
 
     /// Returns the ciphers of two concatenated blocks, each of 16 bytes (FIPS 197, 5.1).
     pub fn encrypt_two(&self, blocks: &[u8; 32]) -> [u8; 32] {
-        self.is_key();
         self.encrypt_lanes(u8x32::from_array(*blocks)).to_array()
     }
 
     /// Returns the ciphers of four concatenated blocks, each of 16 bytes (FIPS 197, 5.1).
     pub fn encrypt_four(&self, blocks: &[u8; 64]) -> [u8; 64] {
-        self.is_key();
         self.encrypt_lanes(u8x64::from_array(*blocks)).to_array()
     }
 
@@ -184,7 +179,7 @@ impl AesKey {
     // encrypted after the other, since a round of eight blocks needs all registers.
     #[inline(always)]
     pub(in crate::proved::aes) fn encrypt_planes(&self, keys: &[KeyPlanes; 15], start: Planes, from: usize) -> Planes {
-        if WIDE {
+        if wide() {
             return self.encrypt_whole(keys, start, from);
         }
         let mut first = lower(start);
@@ -202,7 +197,6 @@ impl AesKey {
         start: Planes,
         from: usize,
     ) -> ([u8; 64], [u8; 64], [u8; 64], [u8; 64]) {
-        self.is_key();
         let (first, second, third, fourth) = planes::store(self.encrypt_planes(keys, start, from));
         (first.to_array(), second.to_array(), third.to_array(), fourth.to_array())
     }
@@ -210,7 +204,6 @@ impl AesKey {
     // Returns the ciphers of the first eight of sixteen blocks in planes, four in each array.
     #[inline(always)]
     pub(in crate::proved::aes) fn encrypt_eight(&self, keys: &[KeyPlanes; 15], start: Planes) -> ([u8; 64], [u8; 64]) {
-        self.is_key();
         let mut half = lower(self.add_first_key(keys, start));
         self.encrypt_half(keys, &mut half, 0);
         // The other lanes are not used, so LLVM leaves out the steps that store them.
@@ -227,10 +220,5 @@ impl AesKey {
     /// blocks, make the `inverse` once.
     pub fn decrypt(&self, block: &Block) -> Block {
         self.inverse().decrypt(block)
-    }
-
-    // A law for the caller's proof: the key has 16, 24 or 32 bytes. The call does nothing.
-    pub(in crate::proved::aes) fn is_key(&self) {
-        let _size = self.size;
     }
 }

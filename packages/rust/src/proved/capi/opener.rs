@@ -22,13 +22,15 @@ pub struct StoredOpener {
     // The mark of an opening in one of its passes, under a suite; any other number if no opening is begun.
     mark: u64,
     pub(in crate::proved::capi) keys: KeyAndNonce,
+    // The bytes between the nonce and the numbers, so that no byte of the struct is left out of what is promised.
+    reserved: u32,
     pub(in crate::proved::capi) state: TwoPassState,
 }
 
 impl StoredOpener {
     // Returns a struct of zeros. It holds no opening.
     pub(in crate::proved::capi) fn zeros() -> StoredOpener {
-        StoredOpener { mark: 0, keys: KeyAndNonce::zeros(), state: TwoPassState::zeros() }
+        StoredOpener { mark: 0, keys: KeyAndNonce::zeros(), reserved: 0, state: TwoPassState::zeros() }
     }
 
     // Marks the struct if the message was begun in it: the first pass begins, under this tag. If that was refused, the struct stays
@@ -129,7 +131,6 @@ pub fn aeadkit_opener_finish(opener: &mut StoredOpener) -> u32 {
 
 /// Leaves zeros in the struct, whatever bytes it held: for an opening that is given up. Its key is then no longer in the struct.
 pub fn aeadkit_opener_wipe(opener: &mut StoredOpener) {
-    // As a whole, so that the bytes between the fields are zeros too.
     let none = StoredOpener::zeros();
     *opener = none;
 }

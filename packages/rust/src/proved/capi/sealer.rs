@@ -17,13 +17,15 @@ pub struct StoredSealer {
     // The mark of a sealing under a suite; any other number if no sealing is begun.
     mark: u64,
     pub(in crate::proved::capi) keys: KeyAndNonce,
+    // The bytes between the nonce and the numbers, so that no byte of the struct is left out of what is promised.
+    reserved: u32,
     pub(in crate::proved::capi) state: PassState,
 }
 
 impl StoredSealer {
     // Returns a struct of zeros. It holds no sealing.
     pub(in crate::proved::capi) fn zeros() -> StoredSealer {
-        StoredSealer { mark: 0, keys: KeyAndNonce::zeros(), state: PassState::zeros() }
+        StoredSealer { mark: 0, keys: KeyAndNonce::zeros(), reserved: 0, state: PassState::zeros() }
     }
 
     // Marks the struct if the sealing was begun in it. If that was refused, the struct stays zeros. Returns the status.
@@ -83,7 +85,6 @@ pub fn aeadkit_sealer_finish(sealer: &mut StoredSealer, tag: &mut [u8; 16]) -> u
 
 /// Leaves zeros in the struct, whatever bytes it held: for a sealing that is given up. Its key is then no longer in the struct.
 pub fn aeadkit_sealer_wipe(sealer: &mut StoredSealer) {
-    // As a whole, so that the bytes between the fields are zeros too.
     let none = StoredSealer::zeros();
     *sealer = none;
 }

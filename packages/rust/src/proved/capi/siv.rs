@@ -21,13 +21,15 @@ pub struct StoredSiv {
     // The mark of a sealing in one of its readings, under a suite; any other number if no sealing is begun.
     mark: u64,
     pub(in crate::proved::capi) keys: KeyAndNonce,
+    // The bytes between the nonce and the numbers, so that no byte of the struct is left out of what is promised.
+    reserved: u32,
     pub(in crate::proved::capi) state: TwoPassState,
 }
 
 impl StoredSiv {
     // Returns a struct of zeros. It holds no sealing.
     pub(in crate::proved::capi) fn zeros() -> StoredSiv {
-        StoredSiv { mark: 0, keys: KeyAndNonce::zeros(), state: TwoPassState::zeros() }
+        StoredSiv { mark: 0, keys: KeyAndNonce::zeros(), reserved: 0, state: TwoPassState::zeros() }
     }
 
     // Marks the struct if the message was begun in it: the first reading begins. If that was refused, the struct stays zeros. Returns
@@ -113,7 +115,6 @@ pub fn aeadkit_siv_finish(siv: &mut StoredSiv) -> u32 {
 
 /// Leaves zeros in the struct, whatever bytes it held: for a sealing that is given up. Its keys are then no longer in the struct.
 pub fn aeadkit_siv_wipe(siv: &mut StoredSiv) {
-    // As a whole, so that the bytes between the fields are zeros too.
     let none = StoredSiv::zeros();
     *siv = none;
 }

@@ -3,7 +3,7 @@
 //! [`four_blocks`] is the public function.
 
 use crate::proved::chacha::state::initial_state;
-use crate::proved::octets::{Key32, Nonce, WIDE, Work, xor_into};
+use crate::proved::octets::{Key32, Nonce, Work, wide, xor_into};
 use crate::simd::{Places, Simd, u8x32, u32x4, u32x8};
 
 // The sums of the words, lane by lane.
@@ -65,7 +65,10 @@ pub(in crate::proved::chacha) fn half_diagonals<const N: usize>(x: &mut [Simd<u3
 // After the second half of a round a step of other work is done only if more steps than this are left. A run of four blocks has
 // 40 places for a step, and about 16 steps to do. If the first places took them all, they would fill the processor there and
 // leave it idle at the others. A run of eight blocks has 32 steps to do, and needs no reserve.
-pub(in crate::proved::chacha) const RESERVE: usize = if WIDE { 0 } else { 20 };
+#[inline(always)]
+pub(in crate::proved::chacha) fn reserve() -> usize {
+    if wide() { 0 } else { 20 }
+}
 
 // Ten double rounds in halves of rounds, with a step of other work after each half. The steps are done on a copy, which stays in
 // registers where a reference would not. A step is a branch, and so it keeps the halves of a round apart: in one basic block
@@ -77,11 +80,11 @@ fn ten_rounds<const N: usize, W: Work>(x: &mut [Simd<u32, N>; 16], work: &mut W)
         half_columns(x, 16, 12);
         own.step(0);
         half_columns(x, 8, 7);
-        own.step(RESERVE);
+        own.step(reserve());
         half_diagonals(x, 16, 12);
         own.step(0);
         half_diagonals(x, 8, 7);
-        own.step(RESERVE);
+        own.step(reserve());
     }
     *work = own;
 }
@@ -99,8 +102,8 @@ pub(in crate::proved::chacha) fn add<const N: usize>(x: &mut [Simd<u32, N>; 16],
 pub(in crate::proved::chacha) fn set_starts<const N: usize>(
     x: &mut [Simd<u32, N>; 16],
     key: &Key32,
-    nonce: &Nonce,
     counters: Simd<u32, N>,
+    nonce: &Nonce,
 ) {
     let state = initial_state(key, 0, nonce);
     for i in 0..16 {
@@ -134,7 +137,7 @@ pub(in crate::proved::chacha) fn four_counters(counter: u32) -> u32x4 {
 /// that the last counter is below 2^32.
 #[inline(always)]
 pub fn set_four_starts(start: &mut [u32x4; 16], key: &Key32, counter: u32, nonce: &Nonce) {
-    set_starts(start, key, nonce, four_counters(counter));
+    set_starts(start, key, four_counters(counter), nonce);
 }
 
 /// Returns the words of four blocks at once (RFC 8439, 2.3): vector i has word i of each block, and lane j has the block with the
@@ -286,7 +289,7 @@ fn xor_eight_lanes(
 
 // XORs the words of eight lanes, serialized one lane after the other, into twice 256 bytes.
 #[inline(always)]
-fn xor_halves(x: &[u32x8; 16], front: &mut [u8], back: &mut [u8]) {
+pub(in crate::proved::chacha) fn xor_halves(x: &[u32x8; 16], front: &mut [u8], back: &mut [u8]) {
     let (front_low, front_high) = front.split_at_mut(128);
     let (first, second) = front_low.split_at_mut(64);
     let (third, fourth) = front_high.split_at_mut(64);
@@ -301,64 +304,4 @@ fn xor_halves(x: &[u32x8; 16], front: &mut [u8], back: &mut [u8]) {
 pub(in crate::proved::chacha) fn xor_eight_serialized(x: &[u32x8; 16], bytes: &mut [u8]) {
     let (front, back) = bytes.split_at_mut(256);
     xor_halves(x, front, back);
-}
-
-// XORs the key stream from a counter on into whole runs of 256 bytes, and does forty steps of other work in each. The
-// states from which blocks start are set once. It is a separate function, since its frame would slow down runs of eight
-// blocks.
-#[inline(never)]
-pub(in crate::proved::chacha) fn xor_fours<W: Work>(
-    key: &Key32,
-    counter: u32,
-    nonce: &Nonce,
-    bytes: &mut [u8],
-    work: &mut W,
-) {
-    let mut own = *work;
-    let mut start = [u32x4::splat(0); 16];
-    set_four_starts(&mut start, key, counter, nonce);
-    let mut done = 0;
-    while done < bytes.len() {
-        let x = four_blocks(&mut start, &mut own);
-        xor_serialized(&x, &mut bytes[done..done + 256]);
-        done += 256;
-    }
-    *work = own;
-}
-
-// XORs the key stream from a counter on into whole runs of 512 bytes, and does forty steps of other work in each.
-pub(in crate::proved::chacha) fn xor_eights<W: Work>(
-    key: &Key32,
-    counter: u32,
-    nonce: &Nonce,
-    bytes: &mut [u8],
-    work: &mut W,
-) {
-    let mut own = *work;
-    let mut start = [u32x8::splat(0); 16];
-    set_starts(&mut start, key, nonce, eight_counters(counter));
-    let mut done = 0;
-    while done < bytes.len() {
-        let x = next_blocks(&mut start, &mut own);
-        xor_eight_serialized(&x, &mut bytes[done..done + 512]);
-        done += 512;
-    }
-    *work = own;
-}
-
-// XORs the first 512 bytes of the key stream from a counter on into twice 256 bytes, and does forty steps of other work. It
-// is a separate function, since inlining it would slow down the other widths.
-#[inline(never)]
-pub(in crate::proved::chacha) fn xor_eight<W: Work>(
-    key: &Key32,
-    counter: u32,
-    nonce: &Nonce,
-    front: &mut [u8],
-    back: &mut [u8],
-    work: &mut W,
-) {
-    let mut start = [u32x8::splat(0); 16];
-    set_starts(&mut start, key, nonce, eight_counters(counter));
-    let x = next_blocks(&mut start, work);
-    xor_halves(&x, front, back);
 }

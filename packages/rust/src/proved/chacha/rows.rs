@@ -6,7 +6,7 @@
 
 use crate::proved::chacha::lanes::{bytes_of, bytes_of_eight, half_quarter, high_halves, low_halves, sum};
 use crate::proved::chacha::state::initial_state;
-use crate::proved::octets::{Idle, Key32, Nonce, WIDE, Work};
+use crate::proved::octets::{Idle, Key32, Nonce, Work, wide};
 use crate::simd::{Places, u32x4, u32x8};
 
 // The states of blocks, side by side in four rows.
@@ -169,8 +169,8 @@ impl Rows for [u32x8; 4] {
     }
 }
 
-// Writes the blocks of one set from a counter on, and does a step of other work in each round. A step is a branch, and it stands
-// between the halves of a round for the reason that `ten_rounds` of `lanes` gives.
+// Writes the blocks of one set from a counter on, and offers a place for a step of other work in each round. A step is a branch,
+// and it stands between the halves of a round for the reason that `ten_rounds` of `lanes` gives.
 #[inline(always)]
 fn put_set<R: Rows, W: Work>(key: &Key32, counter: u32, nonce: &Nonce, out: &mut [u8], work: &mut W) {
     let start = R::starts_at(key, counter, nonce);
@@ -188,8 +188,8 @@ fn put_set<R: Rows, W: Work>(key: &Key32, counter: u32, nonce: &Nonce, out: &mut
     x.put_sums(&start, out);
 }
 
-// Writes the blocks of two sets from a counter on, which are computed together, and does a step of other work in each
-// round. It is a separate function, since its frame would slow down its callers.
+// Writes the blocks of two sets from a counter on, which are computed together, and offers a place for a step of other work in
+// each round. It is a separate function, since its frame would slow down its callers.
 #[inline(never)]
 pub(in crate::proved::chacha) fn put_two_sets<R: Rows, W: Work>(
     key: &Key32,
@@ -221,8 +221,8 @@ pub(in crate::proved::chacha) fn put_two_sets<R: Rows, W: Work>(
     y.put_sums(&start_y, back);
 }
 
-// Writes the blocks of three sets from a counter on, which are computed together, and does a step of other work in each
-// round. It is a separate function, since its frame would slow down its callers.
+// Writes the blocks of three sets from a counter on, which are computed together, and offers a place for a step of other work in
+// each round. It is a separate function, since its frame would slow down its callers.
 #[inline(never)]
 pub(in crate::proved::chacha) fn put_three_sets<R: Rows, W: Work>(
     key: &Key32,
@@ -262,7 +262,7 @@ pub(in crate::proved::chacha) fn put_three_sets<R: Rows, W: Work>(
     z.put_sums(&start_z, back);
 }
 
-// Writes the two blocks from a counter on, with AVX2 by one set, and does twenty steps of other work.
+// Writes the two blocks from a counter on, with AVX2 by one set, and offers 20 places for steps of other work.
 #[inline(never)]
 pub(in crate::proved::chacha) fn put_two_blocks<W: Work>(
     key: &Key32,
@@ -271,7 +271,7 @@ pub(in crate::proved::chacha) fn put_two_blocks<W: Work>(
     out: &mut [u8],
     work: &mut W,
 ) {
-    if WIDE {
+    if wide() {
         put_set::<[u32x8; 4], W>(key, counter, nonce, out, work);
     } else {
         put_two_sets::<[u32x4; 4], W>(key, counter, nonce, out, work);

@@ -1,9 +1,10 @@
 // Made from crates/chacha/src/start.rt by tools/erase: not to be edited.
 //! The first blocks of a key stream (RFC 8439, 2.4), computed at once: a type for each number of blocks.
 
+use crate::proved::chacha::row_beside::xor_five_blocks;
 use crate::proved::chacha::rows::{put_three_sets, put_two_blocks, put_two_sets};
-use crate::proved::chacha::{lanes, row_beside};
-use crate::proved::octets::{Idle, Key32, Nonce, WIDE};
+use crate::proved::chacha::runs::xor_runs;
+use crate::proved::octets::{Idle, Key32, Nonce, Work, wide};
 use crate::simd::{u32x4, u32x8};
 
 /// The first blocks of a key stream, from counter 0 on (RFC 8439, 2.4).
@@ -15,7 +16,14 @@ pub trait KeyStreamStart: Sized {
     /// Computes the first blocks of the key stream, in place, since blocks that are returned are copied. As for
     /// [`crate::proved::chacha::ChaStream::new`], a nonce must never be used twice under one key. AEAD_CHACHA20_POLY1305 takes its one-time key
     /// from the first 32 bytes (2.6), which must not mask a text.
-    fn set(&mut self, key: &Key32, nonce: &Nonce);
+    #[inline(always)]
+    fn set(&mut self, key: &Key32, nonce: &Nonce) {
+        self.set_from(key, 0, nonce, &mut Idle::new());
+    }
+
+    /// Computes the blocks from a counter on in place of the first ones, and offers places for steps of other work. The caller shows
+    /// that eight blocks from this counter on exist.
+    fn set_from<W: Work>(&mut self, key: &Key32, counter: u32, nonce: &Nonce, work: &mut W);
 
     /// Returns the bytes of the blocks: 64 for each of two to eight.
     fn blocks(&self) -> &[u8];
@@ -32,8 +40,8 @@ impl KeyStreamStart for TwoBlocks {
     }
 
     #[inline(always)]
-    fn set(&mut self, key: &Key32, nonce: &Nonce) {
-        put_two_blocks(key, 0, nonce, &mut self.bytes, &mut Idle::new());
+    fn set_from<W: Work>(&mut self, key: &Key32, counter: u32, nonce: &Nonce, work: &mut W) {
+        put_two_blocks(key, counter, nonce, &mut self.bytes, work);
     }
 
     fn blocks(&self) -> &[u8] {
@@ -52,8 +60,8 @@ impl KeyStreamStart for ThreeBlocks {
     }
 
     #[inline(always)]
-    fn set(&mut self, key: &Key32, nonce: &Nonce) {
-        put_three_sets::<[u32x4; 4], Idle>(key, 0, nonce, &mut self.bytes, &mut Idle::new());
+    fn set_from<W: Work>(&mut self, key: &Key32, counter: u32, nonce: &Nonce, work: &mut W) {
+        put_three_sets::<[u32x4; 4], W>(key, counter, nonce, &mut self.bytes, work);
     }
 
     fn blocks(&self) -> &[u8] {
@@ -72,12 +80,12 @@ impl KeyStreamStart for FourBlocks {
     }
 
     #[inline(always)]
-    fn set(&mut self, key: &Key32, nonce: &Nonce) {
-        if WIDE {
-            put_two_sets::<[u32x8; 4], Idle>(key, 0, nonce, &mut self.bytes, &mut Idle::new());
+    fn set_from<W: Work>(&mut self, key: &Key32, counter: u32, nonce: &Nonce, work: &mut W) {
+        if wide() {
+            put_two_sets::<[u32x8; 4], W>(key, counter, nonce, &mut self.bytes, work);
         } else {
             self.bytes = [0; 256];
-            lanes::xor_fours(key, 0, nonce, &mut self.bytes, &mut Idle::new());
+            xor_runs::<[u32x4; 16], W>(key, counter, nonce, &mut self.bytes, work);
         }
     }
 
@@ -97,9 +105,9 @@ impl KeyStreamStart for FiveBlocks {
     }
 
     #[inline(always)]
-    fn set(&mut self, key: &Key32, nonce: &Nonce) {
+    fn set_from<W: Work>(&mut self, key: &Key32, counter: u32, nonce: &Nonce, work: &mut W) {
         self.bytes = [0; 320];
-        row_beside::xor_five_blocks(key, 0, nonce, &mut self.bytes, &mut Idle::new());
+        xor_five_blocks(key, counter, nonce, &mut self.bytes, work);
     }
 
     fn blocks(&self) -> &[u8] {
@@ -118,8 +126,8 @@ impl KeyStreamStart for SixBlocks {
     }
 
     #[inline(always)]
-    fn set(&mut self, key: &Key32, nonce: &Nonce) {
-        put_three_sets::<[u32x8; 4], Idle>(key, 0, nonce, &mut self.bytes, &mut Idle::new());
+    fn set_from<W: Work>(&mut self, key: &Key32, counter: u32, nonce: &Nonce, work: &mut W) {
+        put_three_sets::<[u32x8; 4], W>(key, counter, nonce, &mut self.bytes, work);
     }
 
     fn blocks(&self) -> &[u8] {
@@ -138,9 +146,9 @@ impl KeyStreamStart for EightBlocks {
     }
 
     #[inline(always)]
-    fn set(&mut self, key: &Key32, nonce: &Nonce) {
+    fn set_from<W: Work>(&mut self, key: &Key32, counter: u32, nonce: &Nonce, work: &mut W) {
         self.bytes = [0; 512];
-        lanes::xor_eights(key, 0, nonce, &mut self.bytes, &mut Idle::new());
+        xor_runs::<[u32x8; 16], W>(key, counter, nonce, &mut self.bytes, work);
     }
 
     fn blocks(&self) -> &[u8] {

@@ -1,13 +1,15 @@
 // Made from crates/chacha/src/stream.rt by tools/erase: not to be edited.
-//! The key stream of ChaCha20 (RFC 8439, 2.4), XORed into a text that comes in pieces. Each part of a piece takes the form of
-//! `lanes`, `row_beside` or `rows` that fits it.
+//! The key stream of ChaCha20 (RFC 8439, 2.4), XORed into a text that comes in pieces. Each part of a piece takes the form that
+//! `plan` chooses for its length.
 
 use crate::proved::chacha::interleaved::{hash_interleaved, mask_interleaved};
-use crate::proved::chacha::plan::{
-    FOUR_AT_MOST, ONE_AT_MOST, SIX_AT_MOST, THREE_AT_MOST, TWO_AT_MOST, has_run_of_eight, has_run_of_four,
+use crate::proved::chacha::plan::{BlocksAtOnce, SIX_AT_MOST, has_run_of_eight, has_run_of_four, one_at_most};
+use crate::proved::chacha::rows::block;
+use crate::proved::chacha::runs::{xor_eight, xor_runs};
+use crate::proved::chacha::start::{
+    EightBlocks, FiveBlocks, FourBlocks, KeyStreamStart, SixBlocks, ThreeBlocks, TwoBlocks,
 };
-use crate::proved::chacha::{lanes, row_beside, rows};
-use crate::proved::octets::{BlockWork, Fault, Idle, Key32, Nonce, Stream, WIDE, Work, xor_into};
+use crate::proved::octets::{BlockWork, Fault, Idle, Key32, Nonce, Stream, Work, wide, xor_into};
 use crate::simd::{u32x4, u32x8};
 
 // The length in bytes of the key stream from counter 0 on: 2^32 blocks of 64 bytes.
@@ -80,7 +82,11 @@ impl ChaStream {
 
 impl Stream for ChaStream {
     fn apply_next(&mut self, bytes: &mut [u8]) {
-        let _ = self.apply(bytes);
+        // Within the limits of the suites the key stream does not end. No text leaves unmasked if it does.
+        match self.apply(bytes) {
+            Ok(()) => {}
+            Err(_) => bytes.fill(0),
+        }
     }
 }
 
@@ -105,56 +111,46 @@ fn xor_run<W: Work>(key: &Key32, nonce: &Nonce, offset: u64, bytes: &mut [u8], w
     let skip = (offset % 64) as usize;
     if has_run_of_eight(skip, bytes.len()) {
         let whole = bytes.len() / 512 * 512;
-        lanes::xor_eights(key, counter, nonce, &mut bytes[..whole], work);
+        xor_runs::<[u32x8; 16], W>(key, counter, nonce, &mut bytes[..whole], work);
         return whole;
     }
     if has_run_of_four(skip, bytes.len()) {
         let whole = bytes.len() / 256 * 256;
-        lanes::xor_fours(key, counter, nonce, &mut bytes[..whole], work);
+        xor_runs::<[u32x4; 16], W>(key, counter, nonce, &mut bytes[..whole], work);
         return whole;
     }
-    if WIDE && skip == 0 && bytes.len() > SIX_AT_MOST && counter <= u32::MAX - 7 {
+    if wide() && skip == 0 && bytes.len() > SIX_AT_MOST && counter <= u32::MAX - 7 {
         let mut stream = [0; 256];
         let (front, back) = bytes.split_at_mut(256);
-        lanes::xor_eight(key, counter, nonce, front, &mut stream, work);
+        xor_eight(key, counter, nonce, front, &mut stream, work);
         return 256 + xor_part(&stream, 0, back);
     }
-    if WIDE && skip + bytes.len() > SIX_AT_MOST && counter <= u32::MAX - 7 {
-        let mut stream = [0; 512];
-        lanes::xor_eights(key, counter, nonce, &mut stream, work);
-        return xor_part(&stream, skip, bytes);
+    if skip + bytes.len() <= one_at_most() || counter > u32::MAX - 7 {
+        return xor_part(&block(key, counter, nonce), skip, bytes);
     }
-    if WIDE && skip + bytes.len() > FOUR_AT_MOST && counter <= u32::MAX - 5 {
-        let mut stream = [0; 384];
-        rows::put_three_sets::<[u32x8; 4], W>(key, counter, nonce, &mut stream, work);
-        return xor_part(&stream, skip, bytes);
+    match BlocksAtOnce::for_key_stream(skip + bytes.len()) {
+        BlocksAtOnce::Two => xor_blocks::<TwoBlocks, W>(key, nonce, offset, bytes, work),
+        BlocksAtOnce::Three => xor_blocks::<ThreeBlocks, W>(key, nonce, offset, bytes, work),
+        BlocksAtOnce::Four => xor_blocks::<FourBlocks, W>(key, nonce, offset, bytes, work),
+        BlocksAtOnce::Five => xor_blocks::<FiveBlocks, W>(key, nonce, offset, bytes, work),
+        BlocksAtOnce::Six => xor_blocks::<SixBlocks, W>(key, nonce, offset, bytes, work),
+        BlocksAtOnce::Eight => xor_blocks::<EightBlocks, W>(key, nonce, offset, bytes, work),
     }
-    if WIDE && skip + bytes.len() > TWO_AT_MOST && counter <= u32::MAX - 3 {
-        let mut stream = [0; 256];
-        rows::put_two_sets::<[u32x8; 4], W>(key, counter, nonce, &mut stream, work);
-        return xor_part(&stream, skip, bytes);
-    }
-    if skip + bytes.len() > FOUR_AT_MOST && counter <= u32::MAX - 4 {
-        let mut stream = [0; 320];
-        row_beside::xor_five_blocks(key, counter, nonce, &mut stream, work);
-        return xor_part(&stream, skip, bytes);
-    }
-    if skip + bytes.len() > THREE_AT_MOST && counter <= u32::MAX - 3 {
-        let mut stream = [0; 256];
-        lanes::xor_fours(key, counter, nonce, &mut stream, work);
-        return xor_part(&stream, skip, bytes);
-    }
-    if skip + bytes.len() > TWO_AT_MOST && counter <= u32::MAX - 2 {
-        let mut stream = [0; 192];
-        rows::put_three_sets::<[u32x4; 4], W>(key, counter, nonce, &mut stream, work);
-        return xor_part(&stream, skip, bytes);
-    }
-    if skip + bytes.len() > ONE_AT_MOST && counter <= u32::MAX - 1 {
-        let mut stream = [0; 128];
-        rows::put_two_blocks(key, counter, nonce, &mut stream, work);
-        return xor_part(&stream, skip, bytes);
-    }
-    xor_part(&rows::block(key, counter, nonce), skip, bytes)
+}
+
+// XORs the key stream from an offset on into the first bytes, by way of a buffer for the blocks from that of the offset on, and
+// returns the number of these bytes.
+#[inline(always)]
+fn xor_blocks<S: KeyStreamStart, W: Work>(
+    key: &Key32,
+    nonce: &Nonce,
+    offset: u64,
+    bytes: &mut [u8],
+    work: &mut W,
+) -> usize {
+    let mut stream = S::zeros();
+    stream.set_from(key, (offset / 64) as u32, nonce, work);
+    xor_part(stream.blocks(), (offset % 64) as usize, bytes)
 }
 
 // XORs the bytes of `stream` from offset `skip` on into the first bytes, and returns their number. It is a separate

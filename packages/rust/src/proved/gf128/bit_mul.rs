@@ -1,7 +1,7 @@
 // Made from crates/gf128/src/bit_mul.rt by tools/erase: not to be edited.
 //! Multiplication in GHASH's field by shifts, one bit at a time (SP 800-38D, 6.3, algorithm 1).
 
-use crate::proved::gf128::polynomial_word::{block_of, times_x, word_of};
+use crate::proved::gf128::polynomial_word::{times_x, word_of};
 use crate::proved::gf128::{Keyed128, Multiply};
 use crate::proved::octets::Block;
 
@@ -13,15 +13,14 @@ pub struct BitMul {
 }
 
 impl Multiply for BitMul {
-    fn times(&self, x: &Block) -> Block {
-        let factor = word_of(x.bytes());
+    fn times_word(&self, x: u128) -> u128 {
         let key = self.key;
         let mut product = 0u128;
         // From the coefficient of x^127, the lowest bit, to that of x^0.
         for i in 0..128u32 {
-            product = times_x(product) ^ ((factor >> i) % 2 * key);
+            product = times_x(product) ^ ((x >> i) % 2 * key);
         }
-        block_of(product)
+        product
     }
 }
 

@@ -57,7 +57,7 @@ impl<M: Multiply, O: HashOrder> BlockHash<M, O> {
 
     /// Returns the sum over the whole blocks of the text.
     pub fn sum(&self) -> u128 {
-        self.pieces.core().sum
+        self.pieces.core.sum
     }
 
     /// Returns the bytes of the text after its last whole block: fewer than 16.
@@ -84,7 +84,7 @@ impl<M: Multiply, O: HashOrder> BlockHash<M, O> {
 
     /// Returns the hash of the text so far, if the text is whole blocks of 16 bytes.
     pub fn hash(&self) -> Block {
-        O::hash_of(self.pieces.core().sum)
+        O::hash_of(self.pieces.core.sum)
     }
 
     /// Returns the hash of the text, padded with zeros to whole blocks. Consumes the state.

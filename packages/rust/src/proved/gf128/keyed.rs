@@ -5,17 +5,16 @@ use crate::proved::gf128::hash_order::HashOrder;
 use crate::proved::gf128::polynomial_word::{block_of, word_of};
 use crate::proved::octets::Block;
 
-/// Multiplication by a key of 16 bytes in GHASH's field (SP 800-38D, 6.3). An implementor has to give `times`, and may give
-/// faster methods on words. A reference to a multiplier is a multiplier too, so that a hash can borrow a table.
+/// Multiplication by a key of 16 bytes in GHASH's field (SP 800-38D, 6.3). An implementor has to give `times_word`, and may give
+/// a faster method for many blocks. A reference to a multiplier is a multiplier too, so that a hash can borrow a table.
 pub trait Multiply {
-    /// Returns the product of a block and the key.
-    fn times(&self, x: &Block) -> Block;
-
     /// Returns the product of a word and the key. A word is the number that a block spells, most significant byte first, so the
     /// bit of weight 2^127 is the coefficient of x^0.
-    fn times_word(&self, x: u128) -> u128 {
-        let product = self.times(&block_of(x));
-        word_of(product.bytes())
+    fn times_word(&self, x: u128) -> u128;
+
+    /// Returns the product of a block and the key.
+    fn times(&self, x: &Block) -> Block {
+        block_of(self.times_word(word_of(x.bytes())))
     }
 
     /// Returns the sum after these blocks, as `O` reads them: each is added to the sum, which is then multiplied by the key.
@@ -46,11 +45,6 @@ pub trait Keyed128: Multiply + Sized {
 
 /// A borrowed multiplier.
 impl<M: Multiply> Multiply for &M {
-    #[inline(always)]
-    fn times(&self, x: &Block) -> Block {
-        (**self).times(x)
-    }
-
     #[inline(always)]
     fn times_word(&self, x: u128) -> u128 {
         (**self).times_word(x)

@@ -2,7 +2,7 @@
 //! The tables of multiples of two words side by side, so that a vector of 32 bytes looks the bytes of two words up at once.
 
 use crate::proved::gf128::nibbles::NibblePairs;
-use crate::proved::gf128::placed::PlacedPairs;
+use crate::proved::gf128::placed::{Lanes, Parts, placed_sum};
 use crate::proved::gf128::tables::PlainMultiples;
 use crate::proved::gf128::word_bytes::WordBytes;
 use crate::proved::gf128::word_pairs::WordPair;
@@ -37,12 +37,21 @@ impl PairTables {
     }
 }
 
-// What the tables of byte `j` of two pairs give for the bytes of four words.
-#[inline(always)]
-fn part_of_four(upper: &PairTables, lower: &PairTables, ab: NibblePairs, cd: NibblePairs, j: usize) -> WordPair {
-    let high = upper.part(ab, j);
-    let low = lower.part(cd, j);
-    high.xor(low)
+// What two pairs of tables give for each byte of four words.
+struct FourPaired<'a> {
+    upper: &'a PairTables,
+    lower: &'a PairTables,
+    ab: NibblePairs,
+    cd: NibblePairs,
+}
+
+impl<'a> Parts<WordPair> for FourPaired<'a> {
+    #[inline(always)]
+    fn part(&self, j: usize) -> WordPair {
+        let high = self.upper.part(self.ab, j);
+        let low = self.lower.part(self.cd, j);
+        high.xor(low)
+    }
 }
 
 // The sum of the products of four words, each with the word whose multiples a half of the tables holds.
@@ -57,15 +66,6 @@ pub(in crate::proved::gf128) fn times_pairs(
 ) -> WordBytes {
     let ab = NibblePairs::of(a, b);
     let cd = NibblePairs::of(c, d);
-    let mut sum = PlacedPairs::none();
-    for j in 0..7usize {
-        sum = sum.low(part_of_four(upper, lower, ab, cd, j), 8 * j as u64 + 8);
-    }
-    let seventh = part_of_four(upper, lower, ab, cd, 7);
-    sum = sum.middle(seventh);
-    for j in 0..7usize {
-        sum = sum.high(part_of_four(upper, lower, ab, cd, j + 8), 8 * j as u64 + 8);
-    }
-    let last = part_of_four(upper, lower, ab, cd, 15);
-    sum.reduce_with(last)
+    let words = FourPaired { upper, lower, ab, cd };
+    placed_sum::<WordPair, FourPaired>(&words)
 }

@@ -2,14 +2,17 @@
 //! Multiplication in GHASH's field (SP 800-38D, 6.3) by 32 tables of 16 bytes, which hold 32 multiples of the key.
 
 use crate::proved::gf128::hash_order::HashOrder;
-use crate::proved::gf128::polynomial_word::{block_of, word_of};
+use crate::proved::gf128::polynomial_word::word_of;
 use crate::proved::gf128::tables::PlainMultiples;
 use crate::proved::gf128::wide_mul::times_many;
 use crate::proved::gf128::{Keyed128, Multiply};
-use crate::proved::octets::{Block, WIDE, be_bytes};
+use crate::proved::octets::{Block, be_bytes, wide};
 
 // From this many blocks on, it is faster to make the multiples of three more powers of the key and take four blocks at a time.
-const MANY: usize = if WIDE { 16 } else { 44 };
+#[inline(always)]
+fn many() -> usize {
+    if wide() { 16 } else { 44 }
+}
 
 /// The multiplier that holds 32 multiples of the key, half a KiB: the first choice, whatever the length of the text. For a run
 /// of many blocks it makes the multiples of three more powers of the key, and takes four blocks at a time.
@@ -48,7 +51,9 @@ impl TableMul {
     // The multiplier of a word.
     #[inline(always)]
     pub(in crate::proved::gf128) fn of_word(word: u128) -> TableMul {
-        TableMul { word, multiples: PlainMultiples::of(word) }
+        let multiples = PlainMultiples::of(word);
+        multiples.bytes_known();
+        TableMul { word, multiples }
     }
 
     // The multiplier of 0, whose tables are all zeros.
@@ -60,6 +65,12 @@ impl TableMul {
     // Makes this the multiplier of a word.
     pub(in crate::proved::gf128) fn set_word(&mut self, word: u128) {
         *self = TableMul::of_word(word);
+    }
+
+    // The multiplier that borrows the multiples.
+    #[inline(always)]
+    fn lent<'a>(&'a self) -> PlainMul<'a> {
+        PlainMul { word: self.word, numbers: &self.multiples }
     }
 
     /// Returns the key.
@@ -75,21 +86,13 @@ impl TableMul {
 }
 
 impl Multiply for TableMul {
-    fn times(&self, x: &Block) -> Block {
-        block_of(self.multiples.times_word(word_of(x.bytes())))
-    }
-
     fn times_word(&self, x: u128) -> u128 {
-        product(&self.multiples, x)
+        self.lent().times_word(x)
     }
 
     #[inline(always)]
     fn times_all<O: HashOrder>(&self, sum: u128, blocks: &[[u8; 16]]) -> u128 {
-        if blocks.len() < MANY {
-            times_few::<O>(&self.multiples, sum, blocks)
-        } else {
-            times_many::<O>(self.word, &self.multiples, sum, blocks)
-        }
+        self.lent().times_all::<O>(sum, blocks)
     }
 }
 
@@ -119,22 +122,19 @@ impl<'a> PlainMul<'a> {
     /// the numbers are the multiples of the key.
     #[inline(always)]
     pub fn new(key: &Block, numbers: &'a PlainMultiples) -> PlainMul<'a> {
+        numbers.bytes_known();
         PlainMul { word: word_of(key.bytes()), numbers }
     }
 }
 
 impl<'a> Multiply for PlainMul<'a> {
-    fn times(&self, x: &Block) -> Block {
-        block_of(self.numbers.times_word(word_of(x.bytes())))
-    }
-
     fn times_word(&self, x: u128) -> u128 {
         product(self.numbers, x)
     }
 
     #[inline(always)]
     fn times_all<O: HashOrder>(&self, sum: u128, blocks: &[[u8; 16]]) -> u128 {
-        if blocks.len() < MANY {
+        if blocks.len() < many() {
             times_few::<O>(self.numbers, sum, blocks)
         } else {
             times_many::<O>(self.word, self.numbers, sum, blocks)

@@ -3,7 +3,7 @@
 //! sixteen bytes has byte j of all sixteen multiples, so that a vector looks sixteen bytes up at once, in a register.
 
 use crate::proved::gf128::nibbles::Nibbles;
-use crate::proved::gf128::placed::Placed;
+use crate::proved::gf128::placed::{Parts, placed_sum};
 use crate::proved::gf128::word_bytes::WordBytes;
 use crate::simd::u8x16;
 
@@ -99,19 +99,9 @@ impl PlainMultiples {
     // Multiplies the word whose multiples these are by another word, both as vectors.
     #[inline(always)]
     pub(in crate::proved::gf128) fn times_bytes(&self, word: WordBytes) -> WordBytes {
-        self.bytes_known();
         let at = Nibbles::of(word);
-        let mut sum = Placed::none();
-        for j in 0..7usize {
-            sum = sum.low(self.part(at, j), 8 * j as u64 + 8);
-        }
-        let seventh = self.part(at, 7);
-        sum = sum.middle(seventh);
-        for j in 0..7usize {
-            sum = sum.high(self.part(at, j + 8), 8 * j as u64 + 8);
-        }
-        let last = self.part(at, 15);
-        sum.reduce_with(last)
+        let words = OneWord { multiples: self, at };
+        placed_sum::<WordBytes, OneWord>(&words)
     }
 
     // Multiplies the word whose multiples these are by another word.
@@ -119,5 +109,18 @@ impl PlainMultiples {
     pub(in crate::proved::gf128) fn times_word(&self, x: u128) -> u128 {
         let word = WordBytes::of(x);
         self.times_bytes(word).word()
+    }
+}
+
+// What the multiples of a word give for each byte of another one.
+struct OneWord<'a> {
+    multiples: &'a PlainMultiples,
+    at: Nibbles,
+}
+
+impl<'a> Parts<WordBytes> for OneWord<'a> {
+    #[inline(always)]
+    fn part(&self, j: usize) -> WordBytes {
+        self.multiples.part(self.at, j)
     }
 }

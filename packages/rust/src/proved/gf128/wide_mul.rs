@@ -4,12 +4,12 @@
 use crate::proved::gf128::hash_order::HashOrder;
 use crate::proved::gf128::nibbles::Nibbles;
 use crate::proved::gf128::paired::{PairTables, times_pairs};
-use crate::proved::gf128::placed::Placed;
+use crate::proved::gf128::placed::{Lanes, Parts, placed_sum};
 use crate::proved::gf128::table_mul::{TableMul, times_few};
 use crate::proved::gf128::tables::PlainMultiples;
 use crate::proved::gf128::word_bytes::WordBytes;
 use crate::proved::gf128::{Keyed128, Multiply};
-use crate::proved::octets::{Block, WIDE};
+use crate::proved::octets::{Block, wide};
 
 // From this many runs of four blocks on, it is faster to copy the tables for vectors of 32 bytes.
 const PAIRS_PAY: usize = 3;
@@ -25,57 +25,78 @@ pub struct WideMul {
     fourth: TableMul,
 }
 
-// Four words as the indices of look-ups.
-#[derive(Clone, Copy)]
-struct FourWords {
+// What multiplies four words by the first four powers of a key.
+trait FourProducts {
+    // The sum of four words times four powers of the key, the fourth power first.
+    fn times_four(&self, a: WordBytes, b: WordBytes, c: WordBytes, d: WordBytes) -> WordBytes;
+}
+
+// What the tables of a multiplier give for each byte of four words, each with the tables of its own power.
+struct FourWords<'a> {
+    multiplier: &'a WideMul,
     fourth: Nibbles,
     third: Nibbles,
     second: Nibbles,
     first: Nibbles,
 }
 
-impl FourWords {
-    // The word for the fourth power comes first.
+impl<'a> Parts<WordBytes> for FourWords<'a> {
     #[inline(always)]
-    fn of(a: WordBytes, b: WordBytes, c: WordBytes, d: WordBytes) -> FourWords {
-        FourWords { fourth: Nibbles::of(a), third: Nibbles::of(b), second: Nibbles::of(c), first: Nibbles::of(d) }
-    }
-}
-
-impl WideMul {
-    // XORs what the tables of byte `j` of the multiples give for four words, each with the tables of its own power.
-    #[inline(always)]
-    fn part(&self, words: FourWords, j: usize) -> WordBytes {
-        let fourth = self.fourth.multiples.part(words.fourth, j);
-        let third = self.third.multiples.part(words.third, j);
-        let second = self.second.multiples.part(words.second, j);
-        let first = self.first.multiples.part(words.first, j);
+    fn part(&self, j: usize) -> WordBytes {
+        let tables = self.multiplier;
+        let fourth = tables.fourth.multiples.part(self.fourth, j);
+        let third = tables.third.multiples.part(self.third, j);
+        let second = tables.second.multiples.part(self.second, j);
+        let first = tables.first.multiples.part(self.first, j);
         let high = fourth.xor(third);
         let low = second.xor(first);
         high.xor(low)
     }
+}
 
-    // The sum of four words times four powers of the key, the fourth power first.
+impl FourProducts for WideMul {
     #[inline(always)]
-    fn times_bytes(&self, a: WordBytes, b: WordBytes, c: WordBytes, d: WordBytes) -> WordBytes {
-        self.first.multiples.bytes_known();
-        self.second.multiples.bytes_known();
-        self.third.multiples.bytes_known();
-        self.fourth.multiples.bytes_known();
-        let words = FourWords::of(a, b, c, d);
-        let mut sum = Placed::none();
-        for j in 0..7usize {
-            sum = sum.low(self.part(words, j), 8 * j as u64 + 8);
-        }
-        let seventh = self.part(words, 7);
-        sum = sum.middle(seventh);
-        for j in 0..7usize {
-            sum = sum.high(self.part(words, j + 8), 8 * j as u64 + 8);
-        }
-        let last = self.part(words, 15);
-        sum.reduce_with(last)
+    fn times_four(&self, a: WordBytes, b: WordBytes, c: WordBytes, d: WordBytes) -> WordBytes {
+        let fourth = Nibbles::of(a);
+        let third = Nibbles::of(b);
+        let second = Nibbles::of(c);
+        let first = Nibbles::of(d);
+        let words = FourWords { multiplier: self, fourth, third, second, first };
+        placed_sum::<WordBytes, FourWords>(&words)
     }
+}
 
+// A multiplier with its tables in pairs, for vectors of 32 bytes.
+struct PairedMul<'a> {
+    multiplier: &'a WideMul,
+    upper: &'a PairTables,
+    lower: &'a PairTables,
+}
+
+impl<'a> FourProducts for PairedMul<'a> {
+    #[inline(always)]
+    fn times_four(&self, a: WordBytes, b: WordBytes, c: WordBytes, d: WordBytes) -> WordBytes {
+        times_pairs(self.upper, self.lower, a, b, c, d)
+    }
+}
+
+// The sum after blocks that come in fours.
+#[inline(always)]
+fn times_fours<O: HashOrder, F: FourProducts>(multiplier: &F, sum: u128, fours: &[[[u8; 16]; 4]]) -> u128 {
+    // The sum stays a vector from one run of four blocks to the next.
+    let mut total = WordBytes::of(sum);
+    for four in fours {
+        let first = WordBytes::of_bytes(O::word_bytes(&four[0]));
+        let a = total.xor(first);
+        let b = WordBytes::of_bytes(O::word_bytes(&four[1]));
+        let c = WordBytes::of_bytes(O::word_bytes(&four[2]));
+        let d = WordBytes::of_bytes(O::word_bytes(&four[3]));
+        total = multiplier.times_four(a, b, c, d);
+    }
+    total.word()
+}
+
+impl WideMul {
     // Makes this the multiplier of the key that this word is, in place. To copy the key's multiples is faster than to make them.
     fn set_multiples(&mut self, word: u128, multiples: &PlainMultiples) {
         self.first = TableMul { word, multiples: *multiples };
@@ -92,73 +113,22 @@ impl WideMul {
         self.set_multiples(table.word, &table.multiples);
     }
 
-    // The same, by tables in pairs.
-    #[inline(always)]
-    fn times_bytes_by_pairs(
-        &self,
-        upper: &PairTables,
-        lower: &PairTables,
-        a: WordBytes,
-        b: WordBytes,
-        c: WordBytes,
-        d: WordBytes,
-    ) -> WordBytes {
-        self.first.multiples.bytes_known();
-        self.second.multiples.bytes_known();
-        self.third.multiples.bytes_known();
-        self.fourth.multiples.bytes_known();
-        times_pairs(upper, lower, a, b, c, d)
-    }
-
-    // The sum after blocks that come in fours.
-    #[inline(always)]
-    fn times_fours<O: HashOrder>(&self, sum: u128, fours: &[[[u8; 16]; 4]]) -> u128 {
-        // The sum stays a vector from one run of four blocks to the next.
-        let mut total = WordBytes::of(sum);
-        for four in fours {
-            let first = WordBytes::of_bytes(O::word_bytes(&four[0]));
-            let a = total.xor(first);
-            let b = WordBytes::of_bytes(O::word_bytes(&four[1]));
-            let c = WordBytes::of_bytes(O::word_bytes(&four[2]));
-            let d = WordBytes::of_bytes(O::word_bytes(&four[3]));
-            total = self.times_bytes(a, b, c, d);
-        }
-        total.word()
-    }
-
-    // The same in vectors of 32 bytes. The tables are copied once, so that each look-up loads two tables at once.
-    #[inline(always)]
-    fn times_fours_by_pairs<O: HashOrder>(&self, sum: u128, fours: &[[[u8; 16]; 4]]) -> u128 {
-        let upper = PairTables::of(&self.fourth.multiples, &self.third.multiples);
-        let lower = PairTables::of(&self.second.multiples, &self.first.multiples);
-        let mut total = WordBytes::of(sum);
-        for run in fours {
-            let first = WordBytes::of_bytes(O::word_bytes(&run[0]));
-            let a = total.xor(first);
-            let b = WordBytes::of_bytes(O::word_bytes(&run[1]));
-            let c = WordBytes::of_bytes(O::word_bytes(&run[2]));
-            let d = WordBytes::of_bytes(O::word_bytes(&run[3]));
-            total = self.times_bytes_by_pairs(&upper, &lower, a, b, c, d);
-        }
-        total.word()
-    }
-
     // The form that the processor's vectors allow.
     #[inline(always)]
     fn times_runs<O: HashOrder>(&self, sum: u128, fours: &[[[u8; 16]; 4]]) -> u128 {
-        if WIDE && fours.len() >= PAIRS_PAY {
-            self.times_fours_by_pairs::<O>(sum, fours)
+        if wide() && fours.len() >= PAIRS_PAY {
+            // The tables are copied once, so that each look-up loads two tables at once.
+            let upper = PairTables::of(&self.fourth.multiples, &self.third.multiples);
+            let lower = PairTables::of(&self.second.multiples, &self.first.multiples);
+            let by_pairs = PairedMul { multiplier: self, upper: &upper, lower: &lower };
+            times_fours::<O, PairedMul>(&by_pairs, sum, fours)
         } else {
-            self.times_fours::<O>(sum, fours)
+            times_fours::<O, WideMul>(self, sum, fours)
         }
     }
 }
 
 impl Multiply for WideMul {
-    fn times(&self, x: &Block) -> Block {
-        self.first.times(x)
-    }
-
     fn times_word(&self, x: u128) -> u128 {
         self.first.times_word(x)
     }

@@ -1,6 +1,7 @@
 // Made from crates/gf128/src/word_bytes.rt by tools/erase: not to be edited.
 //! Words of 128 bits as vectors of bytes: a shift by one byte is one shuffle, where LLVM makes three shifts for a number.
 
+use crate::proved::gf128::placed::Lanes;
 use crate::proved::octets::le_bytes;
 use crate::simd::{Places, u8x16, u64x2};
 
@@ -27,24 +28,6 @@ impl WordBytes {
     #[inline(always)]
     pub(in crate::proved::gf128) fn word(self) -> u128 {
         u128::from_le_bytes(self.bytes.to_array())
-    }
-
-    // The XOR of two words.
-    #[inline(always)]
-    pub(in crate::proved::gf128) fn xor(self, other: WordBytes) -> WordBytes {
-        WordBytes { bytes: self.bytes ^ other.bytes }
-    }
-
-    // The word with both its halves shifted up.
-    #[inline(always)]
-    pub(in crate::proved::gf128) fn up(self, count: u64) -> WordBytes {
-        WordBytes { bytes: (u64x2::from_le_bytes(self.bytes) << u64x2::splat(count)).to_le_bytes() }
-    }
-
-    // The word with both its halves shifted down.
-    #[inline(always)]
-    pub(in crate::proved::gf128) fn down(self, count: u64) -> WordBytes {
-        WordBytes { bytes: (u64x2::from_le_bytes(self.bytes) >> u64x2::splat(count)).to_le_bytes() }
     }
 
     // The word moved up by 64 places. What it loses is gone.
@@ -92,5 +75,32 @@ impl WordBytes {
         let out = self.up(64 - count).half_up();
         let fold = out.folded();
         self.shifted_down(count).xor(fold)
+    }
+}
+
+impl Lanes for WordBytes {
+    #[inline(always)]
+    fn zero() -> WordBytes {
+        WordBytes::of(0)
+    }
+
+    #[inline(always)]
+    fn xor(self, other: WordBytes) -> WordBytes {
+        WordBytes { bytes: self.bytes ^ other.bytes }
+    }
+
+    #[inline(always)]
+    fn up(self, count: u64) -> WordBytes {
+        WordBytes { bytes: (u64x2::from_le_bytes(self.bytes) << u64x2::splat(count)).to_le_bytes() }
+    }
+
+    #[inline(always)]
+    fn down(self, count: u64) -> WordBytes {
+        WordBytes { bytes: (u64x2::from_le_bytes(self.bytes) >> u64x2::splat(count)).to_le_bytes() }
+    }
+
+    #[inline(always)]
+    fn sum(self) -> WordBytes {
+        self
     }
 }

@@ -1,6 +1,7 @@
 // Made from crates/gf128/src/word_pairs.rt by tools/erase: not to be edited.
 //! Two words of 128 bits in a vector of 32 bytes. What counts is their XOR, so that a vector needs to be halved only once.
 
+use crate::proved::gf128::placed::Lanes;
 use crate::proved::gf128::word_bytes::WordBytes;
 use crate::simd::{Places, u8x16, u8x32, u64x4};
 
@@ -48,34 +49,31 @@ impl WordPair {
     pub(in crate::proved::gf128) fn of_bytes(bytes: [u8; 32]) -> WordPair {
         WordPair { bytes: u8x32::from_array(bytes) }
     }
+}
 
-    // Twice 0.
+impl Lanes for WordPair {
     #[inline(always)]
-    pub(in crate::proved::gf128) fn zero() -> WordPair {
+    fn zero() -> WordPair {
         WordPair::of(WordBytes::of(0), WordBytes::of(0))
     }
 
-    // The XOR of the two words.
     #[inline(always)]
-    pub(in crate::proved::gf128) fn sum(self) -> WordBytes {
-        WordBytes { bytes: first_half(self.bytes) ^ second_half(self.bytes) }
-    }
-
-    // Both words XORed with those of another vector.
-    #[inline(always)]
-    pub(in crate::proved::gf128) fn xor(self, other: WordPair) -> WordPair {
+    fn xor(self, other: WordPair) -> WordPair {
         WordPair { bytes: self.bytes ^ other.bytes }
     }
 
-    // Both words with both their halves shifted up.
     #[inline(always)]
-    pub(in crate::proved::gf128) fn up(self, count: u64) -> WordPair {
+    fn up(self, count: u64) -> WordPair {
         WordPair { bytes: (u64x4::from_le_bytes(self.bytes) << u64x4::splat(count)).to_le_bytes() }
     }
 
-    // Both words with both their halves shifted down.
     #[inline(always)]
-    pub(in crate::proved::gf128) fn down(self, count: u64) -> WordPair {
+    fn down(self, count: u64) -> WordPair {
         WordPair { bytes: (u64x4::from_le_bytes(self.bytes) >> u64x4::splat(count)).to_le_bytes() }
+    }
+
+    #[inline(always)]
+    fn sum(self) -> WordBytes {
+        WordBytes { bytes: first_half(self.bytes) ^ second_half(self.bytes) }
     }
 }

@@ -9,8 +9,7 @@ use crate::proved::keywrap::steps::{
 use crate::proved::octets::Fault;
 
 /// Returns the wrapping of a text, eight bytes longer than it (RFC 3394, 2.2.1). Faults, in this order: `WrapLength` if the
-/// text is not at least two whole blocks of eight bytes, `OutOfMemory` if the allocation of the result fails. A result too long
-/// for a vector would be `TextTooLong`, but no slice is that long.
+/// text is not at least two whole blocks of eight bytes, `OutOfMemory` if the allocation of the result fails.
 pub fn wrap<A: Allocator>(alloc: A, key: &AesKey, text: &[u8]) -> Result<Vec<u8, A>, Fault> {
     if text.len() < 16 || text.len() % 8 != 0 {
         return Err(Fault::WrapLength);

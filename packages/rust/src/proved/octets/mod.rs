@@ -43,6 +43,6 @@ pub use script::{ScriptIntake, ScriptOutlet, Step};
 #[cfg(feature = "internals")]
 pub use std_io::{FromRead, ToWrite};
 pub use transfer::{fill, give_all};
-pub use vector_width::WIDE;
+pub use vector_width::wide;
 pub use words::{be_bytes, joined, le_bytes, padded};
 pub use work::{BlockWork, Idle, Interleaved, Stream, Work};

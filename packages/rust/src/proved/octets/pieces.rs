@@ -41,11 +41,6 @@ impl<A: Absorb> Pieces<A> {
         Pieces { core, buffer, used: rest.len() }
     }
 
-    /// Returns the state that absorbed the whole blocks of the text.
-    pub fn core(&self) -> &A {
-        &self.core
-    }
-
     /// Returns the bytes of the text after its last whole block: fewer than 16.
     pub fn rest(&self) -> &[u8] {
         &self.buffer[..self.used]

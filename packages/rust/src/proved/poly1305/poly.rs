@@ -106,7 +106,7 @@ impl<M: Multiplier> PolyBy<M> {
 
     /// Returns the sum over the whole blocks of the text, as `low` and `high`: it is `low` plus 2^128 times `high`.
     pub fn sum(&self) -> (u128, u64) {
-        let sum = self.pieces.core().sum.residue();
+        let sum = self.pieces.core.sum.residue();
         (sum.low, sum.high)
     }
 
@@ -147,7 +147,7 @@ impl<M: Multiplier> PolyBy<M> {
 
     /// Returns the tag of the text so far (RFC 8439, 2.5). The key must not be used for a second tag: see [`PolyBy::new`].
     pub fn tag(&self) -> Tag {
-        let core = self.pieces.core();
+        let core = &self.pieces.core;
         let rest = self.pieces.rest();
         let mut sum = core.sum;
         if rest.len() > 0 {

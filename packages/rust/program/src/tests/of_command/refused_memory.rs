@@ -9,7 +9,7 @@ use super::super::vector_files::{TWO_RECORDS, published, with_lines};
 use super::super::{shows, shows_at};
 use super::scripted_files::{Log, Script, Scripted, Sink, Source};
 use crate::command::{
-    FileCommand, FileRequest, Inputs, PrintRequest, Request, Storage, perform, report, write_new_file,
+    FileCommand, FileRequest, Identity, Inputs, PrintRequest, Request, Storage, perform, report, write_new_file,
 };
 use crate::kit::alloc::{Allocator, Global, Vec};
 use crate::kit::io::BufReader;
@@ -47,6 +47,10 @@ impl<'b, 'l, 'm, A: Allocator> Storage for AllocatingFiles<'b, 'l, 'm, A> {
         allocate(self.memory)?;
         let source = self.files.source(reading)?;
         Ok(FromRead::new(BufReader::with_capacity(self.memory, AHEAD, source)?))
+    }
+
+    fn identity(&self, path: &str) -> Option<Identity> {
+        self.files.identity(path)
     }
 
     fn create(&self, path: &str) -> io::Result<ToWrite<Sink<'l>>> {

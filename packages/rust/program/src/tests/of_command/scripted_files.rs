@@ -1,7 +1,7 @@
 // Made from crates/aeadkit/src/tests/of_command/scripted_files.rt by tools/erase: not to be edited.
 //! Files in memory, one of whose calls goes wrong.
 
-use crate::command::Storage;
+use crate::command::{Identity, Storage};
 use crate::kit::alloc::{Global, Vec};
 use aeadkit::internals::octets::{FromRead, ToWrite};
 use std::cell::{Cell, RefCell};
@@ -129,6 +129,10 @@ impl<'b, 'l> Storage for Scripted<'b, 'l> {
 
     fn open(&self, _path: &str, reading: u8) -> io::Result<FromRead<Source<'b, 'l>>> {
         Ok(FromRead::new(self.source(reading)?))
+    }
+
+    fn identity(&self, _path: &str) -> Option<Identity> {
+        None
     }
 
     fn create(&self, _path: &str) -> io::Result<ToWrite<Sink<'l>>> {

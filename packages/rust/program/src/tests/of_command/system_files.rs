@@ -10,6 +10,7 @@ use crate::kit::Abort;
 use crate::kit::alloc::Global;
 use crate::kit::bumpalo::Bump;
 use crate::kit::fs::Files;
+use crate::kit::fs::symlink;
 use crate::kit::{Alloc, HostRuntime, fs};
 
 const FOLDER: &str = "aeadkit_files";
@@ -32,7 +33,9 @@ const UNMADE: &str = "aeadkit_files/unmade";
 
 const LONG: &str = "aeadkit_files/long";
 
-const LONG_TWICE: &str = "aeadkit_files/long_twice";
+const HARD: &str = "aeadkit_files/hard";
+
+const SYMBOLIC: &str = "aeadkit_files/symbolic";
 
 // Writes a file with these bytes.
 fn is_made(rt: &(impl Abort + Files), path: &str, bytes: &[u8]) {
@@ -41,8 +44,8 @@ fn is_made(rt: &(impl Abort + Files), path: &str, bytes: &[u8]) {
 
 // A status, a fault and the words that have them. A file is sealed and opened again. A forged file creates no OUT, and
 // leaves an existing OUT as it was. An empty text gives an empty OUT. A path that leads nowhere is `Read` for IN and
-// `Write` for OUT. A folder, a path without a file and an empty path are `Read`. So is a long file that is sealed onto
-// itself under another path, in one reading or in two, since it ends before the length that it had.
+// `Write` for OUT. A folder, a path without a file and an empty path are `Read`. An OUT that is IN under another path, by
+// a hard link or by a symbolic link is `Words`, whatever the other values are.
 const ROWS: &str = "\
 0 - seal-file --suite chacha20-poly1305 --key 808182838485868788898a8b8c8d8e8f909192939495969798999a9b9c9d9e9f \
     --nonce 070000004041424344454647 --aad 50515253c0c1c2c3c4c5c6c7 --in aeadkit_files/text --out aeadkit_files/sealed
@@ -57,10 +60,13 @@ const ROWS: &str = "\
     --nonce 000000000000000000000000 --in aeadkit_files/none/file --out aeadkit_files/text
 3 Write seal-file --suite aes-128-gcm --key 00000000000000000000000000000000 \
     --nonce 000000000000000000000000 --in aeadkit_files/text --out aeadkit_files/none/file
-3 Read seal-file --suite aes-128-gcm --key 00000000000000000000000000000000 \
+2 Words seal-file --suite aes-128-gcm --key 00000000000000000000000000000000 \
     --nonce 000000000000000000000000 --in aeadkit_files/long --out ./aeadkit_files/long
-3 Read seal-file --suite aes-128-gcm-siv --key 00000000000000000000000000000000 \
-    --nonce 000000000000000000000000 --in aeadkit_files/long_twice --out ./aeadkit_files/long_twice
+2 Words seal-file --suite aes-128-gcm-siv --key 00000000000000000000000000000000 \
+    --nonce 000000000000000000000000 --in aeadkit_files/long --out aeadkit_files/hard
+2 Words seal-file --suite aes-128-gcm --key 00000000000000000000000000000000 \
+    --nonce 000000000000000000000000 --in aeadkit_files/long --out aeadkit_files/symbolic
+2 Words open-file --suite des --key 0 --nonce 0 --in aeadkit_files/symbolic --out aeadkit_files/hard
 3 Read check aeadkit_files
 3 Read check aeadkit_files/unmade
 3 Read check -";
@@ -84,9 +90,11 @@ fn makes(rt: &(impl Abort + Alloc<A = Global> + Files)) {
     }
     is_made(rt, VECTORS, TWO_RECORDS.as_bytes());
     let long = vec![in rt.alloc(); 0; 100_000].expect("memory");
-    for path in [LONG, LONG_TWICE, SEALED, NOTHING] {
+    for path in [LONG, SEALED, NOTHING] {
         is_made(rt, path, &long);
     }
+    shows(rt, fs::hard_link(rt, LONG, HARD).is_ok(), HARD);
+    shows(rt, symlink(rt, "long", SYMBOLIC).is_ok(), SYMBOLIC);
 }
 
 // Runs the rows.
@@ -117,6 +125,8 @@ fn system_files() {
     holds(&rt, OPENED, text);
     holds(&rt, NOTHING, "");
     holds(&rt, TEXT, text);
+    let long = fs::read(&rt, LONG).expect("a file");
+    shows(&rt, long.len() == 100_000 && long.iter().all(|byte| *byte == 0), LONG);
     shows(&rt, fs::read(&rt, UNMADE).is_err(), "no file");
     shows(&rt, fs::remove_dir_all(&rt, FOLDER).is_ok(), "the end");
 }

@@ -8,14 +8,10 @@ use crate::proved::aead::engine::stage::{Masking, Reading};
 use crate::proved::aead::gcm_siv::GcmSiv;
 use crate::proved::aead::pieces::keys::{LentMul, MessageKeys};
 use crate::proved::aead::pieces::pass_state::PassState;
+use crate::proved::aead::pieces::two_pass_state::repeats;
 use crate::proved::aead::step::Order;
 use crate::proved::gf128::{Keyed128, WideMul};
-use crate::proved::octets::{Fault, Intake, Nonce, Outlet, Tag, give_all, same};
-
-// Returns whether a second reading has the length and the tag of the first one.
-fn repeats(keys: &MessageKeys, again: &PassState, first_length: u64, tag: &Tag) -> bool {
-    again.length == first_length && same(keys.tag(again).bytes(), tag.bytes())
-}
+use crate::proved::octets::{Fault, Intake, Nonce, Outlet, Tag, give_all};
 
 // Encrypts a second reading and gives it, and then gives the tag if the reading repeats the first one.
 fn write_again<J: Intake, O: Outlet>(
@@ -29,7 +25,7 @@ fn write_again<J: Intake, O: Outlet>(
     let mut again = Masking { keys, state: *state, order: Order::HashFirst, tag: *tag.bytes() };
     match pass_all(intake, &mut again, first_length, outlet) {
         Ok(Some(_)) => {
-            if repeats(keys, &again.state, first_length, tag) {
+            if repeats(keys, &again.state, first_length, tag.bytes()) {
                 match give_all(outlet, tag.bytes()) {
                     Ok(()) => Ok(()),
                     Err(_) => Err(Fault::Write),

@@ -29,9 +29,9 @@ fn mask_expanded<R: Rule>(
     state: &mut PassState,
     keys: ExpandedKey,
     nonce: &Nonce,
-    tag: &[u8; 16],
     known: &mut KnownBlock,
     order: Order,
+    tag: &[u8; 16],
     piece: &mut [u8],
 ) {
     let first = R::first_counter(nonce, tag);
@@ -46,15 +46,15 @@ fn mask_anew<R: Rule>(
     state: &mut PassState,
     bytes: KeyBytes,
     nonce: &Nonce,
-    tag: &[u8; 16],
     known: &mut KnownBlock,
     order: Order,
+    tag: &[u8; 16],
     piece: &mut [u8],
 ) {
     let key = bytes.schedule();
     let multiplier = TableMul::of(&state.multiplier_key());
     let keys = ExpandedKey { key: &key, multiplier: LentMul::Table(&multiplier) };
-    mask_expanded::<R>(state, keys, nonce, tag, known, order, piece);
+    mask_expanded::<R>(state, keys, nonce, known, order, tag, piece);
 }
 
 // Masks and authenticates a piece.
@@ -63,14 +63,14 @@ pub(in crate::proved::aead) fn mask<R: Rule>(
     state: &mut PassState,
     keys: AesKeys,
     nonce: &Nonce,
-    tag: &[u8; 16],
     known: &mut KnownBlock,
     order: Order,
+    tag: &[u8; 16],
     piece: &mut [u8],
 ) {
     match keys {
-        AesKeys::Expanded(keys) => mask_expanded::<R>(state, keys, nonce, tag, known, order, piece),
-        AesKeys::Bytes(bytes) => mask_anew::<R>(state, bytes, nonce, tag, known, order, piece),
+        AesKeys::Expanded(keys) => mask_expanded::<R>(state, keys, nonce, known, order, tag, piece),
+        AesKeys::Bytes(bytes) => mask_anew::<R>(state, bytes, nonce, known, order, tag, piece),
     }
 }
 

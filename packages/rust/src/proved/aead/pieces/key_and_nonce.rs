@@ -58,7 +58,7 @@ impl KeyAndNonce {
     // Begins a pass under ChaCha20-Poly1305. Each construction has a function of its own, which is not inlined, since the compiler
     // clears the locals of all arms of a `match` when the function is entered.
     #[inline(never)]
-    fn begin_chacha(&mut self, state: &mut PassState, _suite: Suite, key: &Key32, nonce: &Nonce, aad: &[u8]) {
+    fn begin_chacha(&mut self, state: &mut PassState, key: &Key32, nonce: &Nonce, aad: &[u8]) {
         *self = KeyAndNonce::of(key.bytes(), nonce);
         *state = PassState::initial(&PolyKeys, one_time_key(key, nonce), aad);
     }
@@ -68,7 +68,6 @@ impl KeyAndNonce {
     fn begin_gcm(
         &mut self,
         state: &mut PassState,
-        _suite: Suite,
         key: &[u8],
         cipher: &AesKey,
         ghash_key: &Block,
@@ -80,15 +79,7 @@ impl KeyAndNonce {
     }
 
     // Begins a pass under AES-GCM-SIV, from the encryption key of the message and the key of POLYVAL's multiplier.
-    fn begin_derived(
-        &mut self,
-        state: &mut PassState,
-        _suite: Suite,
-        key: &[u8],
-        multiplier_key: &Block,
-        nonce: &Nonce,
-        aad: &[u8],
-    ) {
+    fn begin_derived(&mut self, state: &mut PassState, key: &[u8], multiplier_key: &Block, nonce: &Nonce, aad: &[u8]) {
         *self = KeyAndNonce::of(key, nonce);
         *state = aes_pass::initial_state::<PolyvalOrder>(gcm_siv::message_secret(multiplier_key), aad);
     }
@@ -108,11 +99,11 @@ impl KeyAndNonce {
         match suite {
             Suite::Aes128GcmSiv => {
                 let key = short_encryption_key(&parts);
-                self.begin_derived(state, suite, &key, &multiplier_key, nonce, aad);
+                self.begin_derived(state, &key, &multiplier_key, nonce, aad);
             }
             Suite::Aes256GcmSiv => {
                 let key = long_encryption_key(&parts);
-                self.begin_derived(state, suite, &key, &multiplier_key, nonce, aad);
+                self.begin_derived(state, &key, &multiplier_key, nonce, aad);
             }
             Suite::ChaCha20Poly1305 | Suite::Aes128Gcm | Suite::Aes192Gcm | Suite::Aes256Gcm => unreachable!(),
         }
@@ -143,12 +134,12 @@ impl KeyAndNonce {
         match suite.construction() {
             Construction::ChaChaPoly => {
                 let key = Key32::from_slice(key)?;
-                self.begin_chacha(state, suite, &key, &nonce, aad);
+                self.begin_chacha(state, &key, &nonce, aad);
                 Ok(())
             }
             Construction::Gcm => {
                 let cipher = AesKey::expanded(key);
-                self.begin_gcm(state, suite, key, &cipher, &hash_subkey(&cipher), &nonce, aad);
+                self.begin_gcm(state, key, &cipher, &hash_subkey(&cipher), &nonce, aad);
                 Ok(())
             }
             Construction::GcmSiv => {
@@ -187,7 +178,7 @@ impl KeyAndNonce {
     ) -> Result<(), Fault> {
         let nonce = Nonce::from_slice(nonce)?;
         suite.check_aad(aad)?;
-        self.begin_gcm(state, suite, key, cipher, ghash_key, &nonce, aad);
+        self.begin_gcm(state, key, cipher, ghash_key, &nonce, aad);
         Ok(())
     }
 }

@@ -21,14 +21,6 @@ pub(in crate::proved::aead) enum LentMul<'a> {
 
 impl<'a> Multiply for LentMul<'a> {
     #[inline(always)]
-    fn times(&self, x: &Block) -> Block {
-        match self {
-            LentMul::Table(multiplier) => multiplier.times(x),
-            LentMul::Wide(multiplier) => multiplier.times(x),
-        }
-    }
-
-    #[inline(always)]
     fn times_word(&self, x: u128) -> u128 {
         match self {
             LentMul::Table(multiplier) => multiplier.times_word(x),
@@ -143,10 +135,10 @@ impl<'a> MessageKeys<'a> {
         match self.cipher {
             CipherKeys::ChaCha(key) => mask_chacha(state, key, &nonce, order, piece),
             CipherKeys::Gcm(keys) => {
-                aes_pass::mask::<GhashOrder>(state, keys, &nonce, tag, known, order, piece);
+                aes_pass::mask::<GhashOrder>(state, keys, &nonce, known, order, tag, piece);
             }
             CipherKeys::Siv(keys) => {
-                aes_pass::mask::<PolyvalOrder>(state, keys, &nonce, tag, known, order, piece);
+                aes_pass::mask::<PolyvalOrder>(state, keys, &nonce, known, order, tag, piece);
             }
         }
     }

@@ -8,6 +8,16 @@ use crate::proved::aead::step::Order;
 use crate::proved::aes::KnownBlock;
 use crate::proved::octets::{Fault, Tag, same};
 
+// Whether the text of a second reading has the length and the tag of the first one.
+pub(in crate::proved::aead) fn repeats(
+    keys: &MessageKeys,
+    again: &PassState,
+    first_length: u64,
+    tag: &[u8; 16],
+) -> bool {
+    again.length == first_length && same(keys.tag(again).bytes(), tag)
+}
+
 /// The state of a sealing in two readings under AES-GCM-SIV, or of an opening in two passes under any suite, as plain numbers,
 /// without the message's key and nonce. Each number may have any value.
 ///
@@ -72,14 +82,9 @@ impl TwoPassState {
         Ok(())
     }
 
-    // Returns the tag of the text of a reading.
-    fn reading_tag(&self, keys: &MessageKeys) -> Tag {
-        keys.tag(&self.pass)
-    }
-
     /// Ends the first reading, and returns the tag of its text, 16 bytes. The second reading begins.
     pub fn begin_second_reading(&mut self, keys: &MessageKeys) -> Tag {
-        let tag = self.reading_tag(keys);
+        let tag = keys.tag(&self.pass);
         *self = self.second(tag.bytes());
         tag
     }
@@ -100,8 +105,7 @@ impl TwoPassState {
     /// Returns `Ok` if the second text has the length and the tag of the first, else `SourceChanged`: the ciphertext that
     /// [`TwoPassState::write`] wrote must then be thrown away.
     pub fn end_reading(&self, keys: &MessageKeys) -> Result<(), Fault> {
-        let tag = self.reading_tag(keys);
-        if self.pass.length == self.first && same(tag.bytes(), &self.tag) { Ok(()) } else { Err(Fault::SourceChanged) }
+        if repeats(keys, &self.pass, self.first, &self.tag) { Ok(()) } else { Err(Fault::SourceChanged) }
     }
 
     // ---- an opening in two passes
