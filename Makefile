@@ -12,6 +12,7 @@
 #   make check-aarch64        the library for AArch64, under QEMU
 #   make check-targets        the tests of the crate for AArch64, under QEMU
 #   make check-again          whether the default library is the same, byte for byte, if it is built in another folder
+#   make release-check        all that the kit builds, tested, compared and searched: before a release, an hour or two
 #   make dist                 tarballs for C, a crate, wheels, an npm package and SHA256SUMS, in BUILD/dist
 #   make bench                the speed of the library beside other libraries on this machine; WORDS="--kept 5", or WORDS=edges
 #   make constant-time        branches and addresses that depend on secrets; WORDS=--short
@@ -35,7 +36,7 @@ export FROM BUILD BUILDS PROGRAM
 
 packages := check-c check-rust check-python $(if $(filter rust,$(FROM)),,check-javascript)
 .PHONY: help library wasm program install ready native check check-documents check-definitions check-program check-aarch64 check-again \
-    check-compilers check-targets check-javascript dist bench constant-time $(packages)
+    check-compilers check-targets check-javascript release-check dist bench constant-time $(packages)
 help:
 	@sed -n '3,26s/^# \{0,1\}//p' Makefile
 
@@ -75,6 +76,7 @@ check-definitions:
 check-c: $(PREFIX)/lib/libaeadkit.a
 	$(MAKE) -C packages/c check PREFIX="$(PREFIX)" OUT="$(BUILD)/c"
 check-rust:
+	python3 tools/erase/erase.py --check
 	cd packages/rust && CARGO_TARGET_DIR="$(BUILD)/cargo/crate" $(or $(CARGO),cargo) test --offline
 	cd packages/rust && CARGO_TARGET_DIR="$(BUILD)/cargo/crate" $(or $(CARGO),cargo) build --offline --no-default-features
 check-python: $(PREFIX)/lib/libaeadkit.a
@@ -85,6 +87,7 @@ check-javascript: $(PREFIX)/share/aeadkit/javascript/aeadkit.wasm
 	tools/build/lanes.py "$(PREFIX)/share/aeadkit/javascript/aeadkit.wasm"
 check-program: $(PREFIX)/bin/aeadkit
 	program/tests/check.sh "$(PREFIX)/bin/aeadkit"
+	$(if $(filter rust,$(FROM)),cd packages/rust/program && CARGO_TARGET_DIR="$(BUILD)/cargo/program" $(or $(CARGO),cargo) test --quiet)
 check-targets:
 	tools/build/targets.sh $(or $(WORDS),aarch64)
 check-aarch64: BUILDS := aarch64
@@ -94,6 +97,12 @@ check-again: $(PREFIX)/lib/libaeadkit.a
 	tools/build/lib.sh again "$(PREFIX)"
 check-compilers: $(PREFIX)/lib/libaeadkit.a
 	tools/build/lib.sh compilers "$(PREFIX)"
+
+release-check: library wasm
+	$(MAKE) check check-again check-compilers
+	$(MAKE) constant-time
+	$(MAKE) library check-aarch64 BUILDS=aarch64 PREFIX="$(PREFIX)-aarch64"
+	$(MAKE) constant-time PREFIX="$(PREFIX)-aarch64"
 
 bench: $(PREFIX)/lib/libaeadkit.a
 	bench/bench.sh "$(PREFIX)" $(WORDS)

@@ -67,7 +67,7 @@ copied() {
             [ -e "$copy/out" ] || [ ! -e "$kept" ] || cp -a "$kept" "$copy/"
         done
     done
-    [ "$1" != avx2 ] || cp "$top/tools/build/vector_width_avx2.txt" "$room/crates/octets/src/vector_width.rt"
+    [ "$1" != avx2 ] || sed -i 's/^    false$/    true/' "$room/crates/octets/src/vector_width.rt"
 }
 
 # Compiles the calls for C by cargo, and sets `objects` to what comes out, one object: by_cargo NAME FLAG.. of rustc
@@ -274,7 +274,7 @@ program() {
     if [ "$from" = rust ]; then
         needs_rust
         [ "$kind" = default ] || cpu='-C target-cpu=x86-64-v3'
-        RUSTFLAGS=$cpu CARGO_TARGET_DIR=$build/cargo/program "${CARGO:-cargo}" build --quiet --release --locked \
+        RUSTFLAGS=$cpu CARGO_TARGET_DIR=$build/cargo/program "${CARGO:-cargo}" build --quiet --release \
             --manifest-path "$top/packages/rust/program/Cargo.toml" || fail "cargo does not compile packages/rust/program"
         install "$build/cargo/program/release/aeadkit" "$prefix/bin/aeadkit"
         return

@@ -35,12 +35,6 @@ static void add(const void *bytes, size_t length) {
     for (size_t i = 0; i < length; i++) sum = (sum ^ ((const uint8_t *)bytes)[i]) * 1099511628211u;
 }
 
-/* A struct in pieces, but for its bytes 52 to 55: no field has them, and only LLVM's code happens to write zeros there. */
-static void add_struct(const void *bytes, size_t length) {
-    add(bytes, 52);
-    add((const uint8_t *)bytes + 56, length - 56);
-}
-
 /* Any bytes are a struct in pieces: now and then some of them, or all behind the mark, become others. */
 static void disturb(void *bytes, size_t length) {
     if (!rarely(12)) return;
@@ -137,7 +131,7 @@ static void sealed_in_pieces(void) {
         if (rarely(9)) aeadkit_sealer_wipe(&sealer);
         CALL(sealer_finish, &sealer, tag);
         if (rarely(9)) CALL(sealer_finish, &sealer, tag);
-        add_struct(&sealer, sizeof sealer);
+        add(&sealer, sizeof sealer);
     } else {
         if (with) CALL(siv_init_with, &siv, KEPT, aad, m.aad_length);
         else CALL(siv_init, &siv, SUITE, aad, m.aad_length);
@@ -151,7 +145,7 @@ static void sealed_in_pieces(void) {
         if (rarely(9)) CALL(siv_update, &siv, out, 1);
         if (rarely(20)) aeadkit_siv_wipe(&siv);
         CALL(siv_finish, &siv);
-        add_struct(&siv, sizeof siv);
+        add(&siv, sizeof siv);
     }
     add(out, ROOM);
     add(tag, 16);
@@ -175,7 +169,7 @@ static void opened_in_pieces(void) {
     if (rarely(9)) CALL(opener_update, &opener, out, 1);
     if (rarely(20)) aeadkit_opener_wipe(&opener);
     CALL(opener_finish, &opener);
-    add_struct(&opener, sizeof opener);
+    add(&opener, sizeof opener);
     add(out, ROOM);
 }
 

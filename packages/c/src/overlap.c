@@ -1,6 +1,6 @@
-/* What stands between C and the eight proved calls that write beside what they read. Each function here returns AEADKIT_OVERLAP if
+/* What stands between C and the nine proved calls that write beside what they read. Each of them returns AEADKIT_OVERLAP here if
    the output shares a byte with anything else that the call is given, and otherwise what the proved function returns for the same
-   arguments. It looks at addresses and lengths alone, and reads and writes no memory of the caller.
+   arguments. It looks at addresses and lengths alone, and reads and writes no memory of the caller. Below them stands aeadkit_wipe.
 
    A slice that Rattle writes shares no byte with another one: the proofs rely on that, and a caller in C may break it. lib.sh links
    this file before the proved code, in which it renames `aeadkit_seal` to `aeadkit_seal_proved`, a name that is not exported. The
@@ -23,6 +23,7 @@ __typeof__(aeadkit_wrap) aeadkit_wrap_proved;
 __typeof__(aeadkit_unwrap) aeadkit_unwrap_proved;
 __typeof__(aeadkit_wrap_padded) aeadkit_wrap_padded_proved;
 __typeof__(aeadkit_unwrap_padded) aeadkit_unwrap_padded_proved;
+__typeof__(aeadkit_key_init) aeadkit_key_init_proved;
 #pragma GCC visibility pop
 
 uint32_t aeadkit_seal(uint32_t suite, const void *key, size_t key_length, const void *nonce, size_t nonce_length,
@@ -86,4 +87,15 @@ uint32_t aeadkit_unwrap_padded(const void *key, size_t key_length, const void *w
         || meet(wrapped, wrapped_length, text_length, sizeof *text_length))
         return AEADKIT_OVERLAP;
     return aeadkit_unwrap_padded_proved(key, key_length, wrapped, wrapped_length, text, text_room, text_length);
+}
+
+uint32_t aeadkit_key_init(struct aeadkit_key *kept, uint32_t suite, const void *key, size_t key_length) {
+    if (meet(key, key_length, kept, sizeof *kept)) return AEADKIT_OVERLAP;
+    return aeadkit_key_init_proved(kept, suite, key, key_length);
+}
+
+void aeadkit_wipe(void *bytes, size_t length) {
+    if (length != 0) __builtin_memset(bytes, 0, length);
+    /* It may read the bytes, as far as the compiler knows. */
+    __asm__ __volatile__("" : : "r"(bytes) : "memory");
 }

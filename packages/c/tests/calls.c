@@ -417,6 +417,10 @@ static void wiping(void) {
         aeadkit_sealer_wipe(&held.sealer);
         aeadkit_opener_wipe(&held.opener);
         aeadkit_siv_wipe(&held.siv);
+        aeadkit_wipe(held.before, 8);
+        aeadkit_wipe(NULL, 0);
+        is("wiped to its end", all(held.before, 8, 0) && all((const uint8_t *)held.before + 8, 8, 0xa5));
+        memset(held.before, 0xa5, 8);
         is("wiped", all(&held.kept, sizeof held.kept, 0) && all(&held.sealer, sizeof held.sealer, 0)
                         && all(&held.opener, sizeof held.opener, 0) && all(&held.siv, sizeof held.siv, 0));
         is("beside what is wiped", all(held.before, 16, 0xa5) && all(held.after_key, 16, 0xa5) && all(held.after_sealer, 16, 0xa5)

@@ -148,7 +148,23 @@ static void order(enum call call, uint32_t suite) {
     is("a range that does not", status != AEADKIT_OVERLAP && status != AEADKIT_DONE, -64);
 }
 
+/* A key along the struct that is to keep it. */
+static void move_key(uint32_t suite) {
+    size_t k = aeadkit_key_length(suite);
+    struct aeadkit_key *kept = (struct aeadkit_key *)(void *)(memory + 1024);
+    for (long shift = -(long)k; shift <= AEADKIT_KEPT_KEY_BYTES; shift++) {
+        int shared = shift != -(long)k && shift != AEADKIT_KEPT_KEY_BYTES;
+        memset(memory, 0xa5, 2048);
+        memcpy(before, memory, 2048);
+        uint32_t status = aeadkit_key_init(kept, suite, memory + 1024 + shift, k);
+        is("the status of key_init", status == (shared ? AEADKIT_OVERLAP : AEADKIT_DONE), shift);
+        is("a struct that keeps no key", !shared || !memcmp(memory, before, 2048), shift);
+        *(shared ? &refusals : &results) += 1;
+    }
+}
+
 int main(void) {
+    for (uint32_t suite = 1; suite <= 6; suite++) move_key(suite);
     for (int call = SEAL; call < WRAP; call++)
         for (uint32_t suite = 1; suite <= 6; suite++) {
             for (size_t n = 1; n < LONGEST; n += n < 300 ? 1 : 97) {

@@ -160,6 +160,7 @@ static void the_rest(void) {
     WIPES(aeadkit_sealer_wipe(&sealer));
     WIPES(aeadkit_opener_wipe(&opener));
     WIPES(aeadkit_siv_wipe(&siv));
+    WIPES(aeadkit_wipe(&siv, sizeof siv));
     TAKES(AEADKIT_SEALER_BYTES, aeadkit_sealer_size());
     TAKES(AEADKIT_OPENER_BYTES, aeadkit_opener_size());
     TAKES(AEADKIT_SIV_BYTES, aeadkit_siv_size());
