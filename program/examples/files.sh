@@ -7,8 +7,9 @@
 # KEYFILE holds a key of 32 bytes in hex, as `od -An -v -tx1 -N32 /dev/urandom | tr -d ' \n'` prints one. The program takes the
 # key as a word, which the list of processes shows to every user of the machine: use one of your own.
 #
-# A sealed file holds neither its suite nor its nonce nor its associated data. So sealing writes OUT.how beside OUT, with the
-# suite, the nonce and the label. Without it OUT can't be opened: keep and move both together. What the script does against
+# The suite is always AES-256-GCM-SIV: a name of it in a file that nobody authenticated would let others choose. A sealed file holds
+# neither its nonce nor its associated data. So sealing writes OUT.how beside OUT, with the nonce and the label. Without it OUT can't
+# be opened: keep and move both together. What the script does against
 # - reordering and cutting: the file is one sealing, which opens as a whole or not at all;
 # - swapping: LABEL is the associated data, and is given again to open. Another sealed file opens in this one's place, with
 #   its own OUT.how, only if its label is the same: let the label say what the file is, and when it was sealed;
@@ -16,7 +17,7 @@
 #   and label were the same.
 # OUT must not exist, nor OUT.how when OUT is sealed. Both are written under other names, and get their own after status 0.
 #
-# Status: 0 done; 1 not authentic: changed, cut, or sealed under another key, suite, nonce or label; 2 wrong words, key or
+# Status: 0 done; 1 not authentic: changed, cut, or sealed under another key, nonce or label; 2 wrong words, key or
 # OUT.how; 3 a file failed, or changed while it was read; 4 out of memory.
 set -eu
 suite=aes-256-gcm-siv
@@ -38,7 +39,7 @@ run() {
         --in "$in" --out "$new" || status=$?
     case $status in
     0) ;;
-    1) fail 1 "$in is not authentic: it was changed or cut, or has another key, suite, nonce or label" ;;
+    1) fail 1 "$in is not authentic: it was changed or cut, or has another key, nonce or label" ;;
     2) fail 2 "the key in $key_file or the contents of $how are wrong" ;;
     3) fail 3 "$in or $out failed, or $in was written meanwhile; it may be tried again" ;;
     4) fail 4 "out of memory; it may be tried again" ;;
@@ -62,12 +63,11 @@ seal)
     [ ! -e "$how" ] || fail 2 "$how exists" # without it another sealed file can't be opened
     nonce=$(head -c 12 /dev/urandom | hex)
     run seal-file
-    printf 'suite=%s\nnonce=%s\nlabel=%s\n' "$suite" "$nonce" "$label" > "$new.how" || fail 3 "$how can't be written"
+    printf 'nonce=%s\nlabel=%s\n' "$nonce" "$label" > "$new.how" || fail 3 "$how can't be written"
     mv "$new.how" "$how" || fail 3 "$how can't be written" ;;
 open)
     how=$in.how
     [ -r "$how" ] || fail 3 "$how can't be read"
-    suite=$(sed -n 's/^suite=//p' "$how")
     nonce=$(sed -n 's/^nonce=//p' "$how")
     [ "$label" = "$(sed -n 's/^label=//p' "$how")" ] || fail 1 "$in has another label"
     run open-file ;;

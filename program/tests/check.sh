@@ -77,6 +77,8 @@ does 0 seal key "it's a label" "a text" sealed
 does 0 open key "it's a label" sealed opened
 cmp opened "a text"
 does 2 open key "it's a label" sealed opened # opened is there
+echo suite=aes-256-gcm >> sealed.how # the suite is not for the file to choose
+does 0 open key "it's a label" sealed opened-again
 does 1 open key "another label" sealed out
 does 1 open another-key "it's a label" sealed out
 does 3 seal key label no-file out

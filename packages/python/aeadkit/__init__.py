@@ -14,8 +14,8 @@ cryptography (PyCA), and `aeadkit.keywrap` its functions for AES key wrap.
 
 Arguments. Keys, nonces, associated data and texts are bytes, or an object that gives bytes, such as a bytearray, a
 memoryview, an mmap or a numpy array of uint8. Anything else is a TypeError. They are read where they are, and no other thread
-may change them during the call. The calls in place change what a memoryview shows, such as memoryview(data)[1:5], which no
-other thread may read or write meanwhile. They take nothing else: data[1:5] of a bytearray is a copy, which would be lost.
+may change them during the call. The calls in place change a bytearray or what a memoryview shows, and no other thread may read
+or write it meanwhile. A slice of a bytearray is a copy: for a part write memoryview(data)[1:5].
 
 Exceptions. Failed authentication is InvalidTag, and so is a sealing that is shorter than a tag. A call in the wrong order,
 after close or in a forked process is a StateError. All exceptions of this package are Refused. A wrong length and an unknown
@@ -228,17 +228,17 @@ class Key(_HasStruct):
         struct = self._get()
         return _done(_lib.open(struct.memory, nonce, sealed, aad))
 
-    def seal_in_place(self, nonce: Buffer, text: memoryview, *, aad: Optional[Buffer] = None) -> bytes:
-        """Replaces the text that a memoryview shows by its ciphertext, and returns the tag of 16 bytes.
+    def seal_in_place(self, nonce: Buffer, text: Buffer, *, aad: Optional[Buffer] = None) -> bytes:
+        """Replaces a text by its ciphertext where it stands, and returns the tag of 16 bytes.
 
         The ciphertext and then the tag are what seal returns. After an exception the text is as it was. TypeError if `text` is
-        not a memoryview, is read-only or is not contiguous; Overlap if the nonce or the associated data stands in it.
+        read-only or is not contiguous; Overlap if the nonce or the associated data stands in it.
         """
         struct = self._get()
         return _done(_lib.seal_in_place(struct.memory, nonce, text, aad))
 
-    def open_in_place(self, nonce: Buffer, ciphertext: memoryview, tag: Buffer, *, aad: Optional[Buffer] = None) -> None:
-        """Replaces the ciphertext that a memoryview shows by its text. The tag of 16 bytes is not part of the ciphertext.
+    def open_in_place(self, nonce: Buffer, ciphertext: Buffer, tag: Buffer, *, aad: Optional[Buffer] = None) -> None:
+        """Replaces a ciphertext by its text where it stands. The tag of 16 bytes is not part of the ciphertext.
 
         InvalidTag if they are not a sealing under this key, nonce and associated data. After this and any other exception
         the ciphertext is as it was. ValueError if the tag is not 16 bytes long; TypeError and Overlap as in seal_in_place.
@@ -302,8 +302,8 @@ class Sealer(_InPieces):
         be longer than `suite.text_limit`."""
         return self._call(_lib.sealer_update, piece)
 
-    def update_in_place(self, piece: memoryview) -> None:
-        """Replaces the next piece of the text, which a memoryview shows, by its ciphertext."""
+    def update_in_place(self, piece: Buffer) -> None:
+        """Replaces the next piece of the text by its ciphertext where it stands."""
         self._call(_lib.sealer_update_in_place, piece)
 
     def finish(self) -> bytes:
@@ -340,8 +340,8 @@ class Opener(_InPieces):
         longer than the first."""
         return self._call(_lib.opener_update, piece)
 
-    def update_in_place(self, piece: memoryview) -> None:
-        """Replaces the next piece of the ciphertext, which a memoryview shows, by its text, in the second pass."""
+    def update_in_place(self, piece: Buffer) -> None:
+        """Replaces the next piece of the ciphertext by its text where it stands, in the second pass."""
         self._call(_lib.opener_update_in_place, piece)
 
     def finish(self) -> None:
@@ -380,8 +380,8 @@ class SivSealer(_InPieces):
         longer than the first."""
         return self._call(_lib.siv_update, piece)
 
-    def update_in_place(self, piece: memoryview) -> None:
-        """Replaces the next piece of the text, which a memoryview shows, by its ciphertext, in the second pass."""
+    def update_in_place(self, piece: Buffer) -> None:
+        """Replaces the next piece of the text by its ciphertext where it stands, in the second pass."""
         self._call(_lib.siv_update_in_place, piece)
 
     def finish(self) -> None:

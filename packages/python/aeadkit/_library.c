@@ -17,22 +17,23 @@ static int refused(PyObject *exception, const char *message) {
     return 0;
 }
 
-/* Gets an argument: 's' a struct, 'r' bytes to read, 'o' the same or None, 't' a tag, 'c' a memoryview of bytes to change, 'n'
-   a number, as the length of an empty buffer. Returns 0 after an exception. */
+/* Gets an argument: 's' a struct, 'r' bytes to read, 'o' the same or None, 't' a tag, 'c' bytes to change, 'n' a number, as the
+   length of an empty buffer. Returns 0 after an exception. */
 static int get(Py_buffer *view, char kind, PyObject *object) {
     if (kind == 'o' && object == Py_None) return 1;
-    if (kind == 'n') return (view->len = PyLong_AsSsize_t(object)) >= 0;
-    if (kind == 'c' && !PyMemoryView_Check(object))
-        return refused(PyExc_TypeError, "a memoryview is required, since a slice of a bytearray is a copy");
+    if (kind == 'n') {
+        view->len = PyLong_AsSsize_t(object);
+        return view->len >= 0 || (!PyErr_Occurred() && refused(PyExc_ValueError, "a number is not negative"));
+    }
     if (PyObject_GetBuffer(object, view, kind == 's' ? PyBUF_WRITABLE : PyBUF_FULL_RO)) return 0;
     const char *format = view->format ? view->format : "B";
     format += *format == '<';
     if (!*format || !strchr("Bbc", *format) || format[1])
         return refused(PyExc_TypeError, "bytes are required, not items of another type");
     if (kind == 't' && view->len != AEADKIT_TAG_BYTES) return refused(PyExc_ValueError, "the tag is not 16 bytes long");
-    if (kind == 'c' && view->readonly) return refused(PyExc_TypeError, "the memoryview is read-only");
+    if (kind == 'c' && view->readonly) return refused(PyExc_TypeError, "bytes to change are required, such as a bytearray, and these are read-only");
     if (PyBuffer_IsContiguous(view, 'C')) return 1;
-    if (kind == 'c') return refused(PyExc_TypeError, "the memoryview is not contiguous");
+    if (kind == 'c') return refused(PyExc_TypeError, "the bytes to change are not contiguous");
     PyObject *copy = PyBytes_FromObject(object);
     PyBuffer_Release(view);
     if (!copy || PyObject_GetBuffer(copy, view, PyBUF_SIMPLE)) return 0;
@@ -63,7 +64,7 @@ static int overlaps(const Py_buffer *b, int changed) {
     uintptr_t start = (uintptr_t)b[changed].buf, end = start + (size_t)b[changed].len;
     for (int i = 0; i < MOST_ARGUMENTS; i++) {
         uintptr_t other = (uintptr_t)b[i].buf;
-        if (i != changed && b[i].len && start < other + (size_t)b[i].len && other < end) return 1;
+        if (i != changed && b[i].len && b[changed].len && start < other + (size_t)b[i].len && other < end) return 1;
     }
     return 0;
 }

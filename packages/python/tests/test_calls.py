@@ -76,6 +76,7 @@ class Faults(unittest.TestCase):
 
     def test_wrong_lengths_and_suites(self):
         key, siv, buffer, peer = Key(GCM, KEY), Key(SIV, KEY), memoryview(bytearray(TEXT)), aead.AESGCM(KEY)
+        self.assertRaises(ValueError, aeadkit._lib.key_init, -1, KEY)
         for nonce in (b"", bytes(11), bytes(13), bytes(16)):
             self.refused("nonce is not 12 bytes", lambda: key.seal(nonce, TEXT), lambda: key.open(nonce, SEALED),
                          lambda: key.seal_in_place(nonce, buffer), lambda: key.open_in_place(nonce, buffer, TAG),
@@ -119,7 +120,7 @@ class Faults(unittest.TestCase):
             self.assertEqual(fault.__bases__, (Refused,))
 
     def test_in_place(self):
-        """What a memoryview shows is changed, and nothing else. A copy and what cannot be changed are TypeErrors."""
+        """What is given is changed, and nothing else. What cannot be changed is a TypeError."""
         for suite in Suite:
             key, buffer = Key(suite, KEY[: suite.key_bytes]), bytearray(b"head" + TEXT)
             with memoryview(buffer) as view:
@@ -143,7 +144,14 @@ class Faults(unittest.TestCase):
                     self.assertRaises(Overlap, key.open_in_place, NONCE, view[4:], TAG, aad=aad)
                 self.assertRaises(Overlap, key.open_in_place, NONCE, view[4:], view[-16:])
                 self.assertEqual(buffer, b"head" + TEXT)
-            for text in (TEXT, memoryview(TEXT), buffer, buffer[4:], array.array("B", TEXT), memoryview(array.array("i", [1]))):
+                # An empty text overlaps nothing, also where it stands among other bytes.
+                self.assertEqual(key.seal_in_place(NONCE, view[2:2], aad=view), key.seal(NONCE, b"", aad=buffer))
+            for whole in (bytearray(TEXT), array.array("B", TEXT)):
+                tag = key.seal_in_place(NONCE, whole)
+                self.assertEqual(bytes(whole) + tag, key.seal(NONCE, TEXT))
+                key.open_in_place(NONCE, whole, tag)
+                self.assertEqual(bytes(whole), TEXT)
+            for text in (TEXT, memoryview(TEXT), array.array("i", [1]), memoryview(array.array("i", [1]))):
                 self.assertRaises(TypeError, key.seal_in_place, NONCE, text)
                 self.assertRaises(TypeError, key.open_in_place, NONCE, text, tag, aad=b"aad")
             self.assertEqual(key.seal_in_place(NONCE, memoryview(bytearray())), key.seal(NONCE, b""))
