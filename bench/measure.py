@@ -1,8 +1,8 @@
 #!/usr/bin/env python3
-"""Measures what docs/SPEED.md shows and writes docs/speed.tsv: measure.py PREFIX [RUNS]
+"""Measures what docs/SPEED.md shows and writes docs/speed.tsv: measure.py PREFIX RUST [RUNS]
 
-PREFIX is what make install laid out with PROGRAM=default: both builds of the library, and the program. It takes a quarter of an
-hour on a machine that does nothing else."""
+PREFIX is what make install laid out with PROGRAM=default: both builds of the library, and the program; RUST what make library
+FROM=rust did. It takes a quarter of an hour on a machine that does nothing else."""
 import datetime
 import os
 import pathlib
@@ -44,7 +44,7 @@ def files(program, room):
 
 
 def main():
-    prefix, runs = pathlib.Path(sys.argv[1]).resolve(), sys.argv[2] if len(sys.argv) > 2 else "10"
+    (prefix, rust), runs = (pathlib.Path(word).resolve() for word in sys.argv[1:3]), sys.argv[3] if len(sys.argv) > 3 else "10"
     lines, versions = [], {}
     with tempfile.TemporaryDirectory(dir="/dev/shm") as name:
         room = pathlib.Path(name)
@@ -57,6 +57,7 @@ def main():
             data.unlink()
         lines += [f"default\t{line}" for line in run(HERE / "bench.sh", prefix, "pieces").splitlines()]
         lines += run(HERE / "bench.sh", prefix, "go").splitlines()
+        lines += run(HERE / "bench.sh", prefix, "compilers", rust).splitlines()
         lines += files(prefix / "bin/aeadkit", room)
     processor = re.search(r"model\s+: (\d+)\nmodel name\s+: (.*)", pathlib.Path("/proc/cpuinfo").read_text())
     head = [f"# {processor[2]}, model {processor[1]}, {datetime.date.today()}; " + ", ".join(map(" ".join, sorted(versions.items()))),

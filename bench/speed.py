@@ -72,6 +72,18 @@ def beside_go(found):
     return "\n".join(lines)
 
 
+def compilers(found):
+    """Returns the table of sealing under a kept key: the nanoseconds of the build that the kit compiles, and those of rustc's."""
+    kinds = list(dict.fromkeys(kind for (_, peers, _, kind, _, _) in found if peers == "compilers"))
+    lines = ["| | | " + " | ".join(map(size, LENGTHS)) + " |", "|---|---|" + "---|" * len(LENGTHS)]
+    for kind in kinds:
+        for build, name in (("default", "x86-64-v2"), ("avx2", "x86-64-v3"), ("avx512", "x86-64-v4")):
+            of = [found.get((build, "compilers", "kept", kind, "sealing", length), {}) for length in LENGTHS]
+            if any(of):
+                lines.append(f"| {kind} | {name} | " + " | ".join(" / ".join(f"{one[by]:.0f}" for by in ("kit", "rustc") if by in one) for one in of) + " |")
+    return "\n".join(lines)
+
+
 def sides(found, build, peers, kind, length):
     """Returns the library's time of sealing under a new key, and {peer: time}."""
     of = dict(found[build, peers, "new", kind, "sealing", length])
@@ -131,7 +143,7 @@ def plot(found):
 
 def main():
     found, stale = figures(), []
-    made = {"long texts": long_texts(found), "summary": summary(found), "beside Go": beside_go(found)}
+    made = {"long texts": long_texts(found), "summary": summary(found), "beside Go": beside_go(found), "compilers": compilers(found)}
     for words in ("default plain new", "avx2 avx2 new", "default plain kept", "avx2 avx2 kept", "avx2 all new"):
         made[words] = table(found, *words.split())
 

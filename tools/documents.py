@@ -215,9 +215,8 @@ def advice():
     return f"one advice in {len(flat)} files"
 
 
-ADVISING = ["README.md", "docs/LIBRARY.md", "packages/c/README.md", "packages/c/include/aeadkit.h", "packages/rust/README.md",
-            "packages/rust/src/suite.rs", "packages/python/README.md", "packages/python/aeadkit/__init__.py",
-            "packages/javascript/README.md", "packages/javascript/aeadkit.d.mts"]
+ADVISING = ["README.md", "packages/c/include/aeadkit.h", "packages/rust/src/suite.rs", "packages/python/aeadkit/__init__.py",
+            "packages/javascript/aeadkit.d.mts"]
 
 
 if sys.argv[1:]:
