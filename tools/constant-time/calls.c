@@ -166,6 +166,10 @@ static void whole(size_t n, size_t a, uint64_t number) {
         CALL("key_init", AEADKIT_DONE, aeadkit_key_init(&kept, suite, key, k));
         return;
     }
+    if (is("wipe")) {
+        CALL_VOID("wipe", aeadkit_wipe(text, n));
+        return;
+    }
     if (is("key_wipe")) {
         CALL("key_init", AEADKIT_DONE, aeadkit_key_init(&kept, suite, key, k));
         state(&kept, sizeof kept);
@@ -437,7 +441,7 @@ static void known(size_t n, size_t a, uint64_t number) {
 /* ---- Cells and lengths ---- */
 
 static const char *const whole_calls[] = {
-    "seal_in_place ok", "open_in_place ok", "open_in_place no", "seal ok", "open ok", "open no", "key_init ok", "key_wipe ok",
+    "seal_in_place ok", "open_in_place ok", "open_in_place no", "seal ok", "open ok", "open no", "key_init ok", "key_wipe ok", "wipe ok",
     "seal_in_place_with ok", "open_in_place_with ok", "open_in_place_with no", "seal_with ok", "open_with ok", "open_with no",
     "opener_init ok", "opener_init_with ok", "opener_check ok", "opener_begin_second ok", "opener_begin_second no",
     "opener_update ok", "opener_finish ok", "opener_finish no", "opener_wipe ok", NULL};

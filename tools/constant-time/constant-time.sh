@@ -7,14 +7,16 @@ for suite in 1 2 3 4 5 6; do claimed="$claimed $suite:aeadkit.(seal|open)-file";
 suites="1 2 3 4 5 6 16 24 32"
 calls='\S*'
 lengths=whole
-table='' record='' memcheck=valgrind
+table='' record='' only='' memcheck=valgrind
 program=default
 ! LC_ALL=C /lib64/ld-linux-x86-64.so.2 --help 2>&1 | grep -q '^ *x86-64-v3 (supported' || program=x86-64-v3
 machine=$program
 jobs=$(nproc)
 usage() {
     echo "usage: constant-time.sh [options] PREFIX
-  PREFIX            what make install laid out. Both builds for x86-64 are looked at, if PREFIX has both and this machine runs both
+  PREFIX            what make library or make install laid out, by the kit or by cargo. The default build and that for AVX2 are looked
+                    at, if PREFIX has both and this machine runs both, and that for AVX-512 is not
+  --builds WORDS    only these: default, x86-64-v3
   --short           memcheck looks at fewer lengths, and of suites with the same code not at each call
   --traces          without memcheck: rare branches are not found
   --memcheck WORDS  what runs memcheck, instead of 'valgrind'. A library for AArch64 is looked at without memcheck, unless this says
@@ -43,6 +45,7 @@ while [ $# -gt 1 ]; do
         --short) lengths=short; shift; continue ;;
         --traces) memcheck=''; shift; continue ;;
         --memcheck) memcheck=$2 ;;
+        --builds) only=$2 ;;
         --suites) suites=$2 ;;
         --calls) calls=$2 ;;
         --claimed) claimed=$2 ;;
@@ -74,17 +77,23 @@ done
 room=$(mktemp -d)
 trap 'rm -rf "$room"' EXIT
 
-# The loader takes the build for AVX2 by itself if it stands below the other one, so each build gets a folder of its own.
-mkdir "$room/$builds"
-cp -L "$prefix/lib/libaeadkit.so" "$room/$builds/"
-wide=$prefix/lib/glibc-hwcaps/x86-64-v3/libaeadkit.so
-if [ -e "$wide" ] && [ "$machine" = x86-64-v3 ]; then
+# The loader takes the build for a newer processor by itself if it stands below the other one, so each build gets a folder of its own.
+hwcaps=$prefix/lib/glibc-hwcaps
+if [ -e "$hwcaps/x86-64-v3/libaeadkit.so" ] && [ "$machine" = x86-64-v3 ]; then
     builds="default x86-64-v3"
-    mkdir "$room/x86-64-v3"
-    cp -L "$wide" "$room/x86-64-v3/"
 elif [ $processor = x86_64 ]; then
     echo "left out: the build for AVX2, which is not in PREFIX or does not run on this machine"
 fi
+[ ! -e "$hwcaps/x86-64-v4" ] || echo "left out: the build for AVX-512, whose instructions neither QEMU nor valgrind has"
+for build in $only; do
+    echo " $builds " | grep -q " $build " || fail "there is no build $build here, but $builds"
+done
+builds=${only:-$builds}
+for build in $builds; do
+    mkdir "$room/$build"
+    [ "$build" = x86-64-v3 ] && from=$hwcaps/$build || from=$prefix/lib
+    cp -L "$from/libaeadkit.so" "$room/$build/"
+done
 cc -O2 -o "$room/traces" "$here/traces.c"
 cc -O2 -shared -fPIC -o "$room/program.so" "$here/program.c"
 # valgrind's headers are the same for each processor, and do not lie where a compiler for another one looks.

@@ -19,10 +19,10 @@ def table():
     lines = (TOP / "docs/constant-time.tsv").read_text(encoding="utf-8").splitlines()
     names = lines[0].removeprefix("# ").split("\t")
     rows = [dict(zip(names, line.split("\t"))) for line in lines[1:]]
-    yield "| build | " + " | ".join(CONSTRUCTIONS) + " | memcheck | at commit |"
-    yield "|---" * (3 + len(CONSTRUCTIONS)) + "|"
-    for build, name in BUILDS.items():
-        of_build = [row for row in rows if row["build"] == build]
+    yield "| compiler | build | " + " | ".join(CONSTRUCTIONS) + " | memcheck | at commit |"
+    yield "|---" * (4 + len(CONSTRUCTIONS)) + "|"
+    for compiler, build in dict.fromkeys((row["compiler"], row["build"]) for row in rows):
+        of_build = [row for row in rows if (row["compiler"], row["build"]) == (compiler, build)]
         cells = []
         for suites in CONSTRUCTIONS.values():
             of = [row for row in of_build if row["suite"] in suites.split()]
@@ -32,7 +32,7 @@ def table():
         calls, tainted = (sum(int(row[column]) for row in of_build) for column in ("calls", "memcheck"))
         lengths = joined(row["lengths of memcheck"] for row in of_build if row["lengths of memcheck"] != "none")
         by = f"{'all' if tainted == calls else tainted} calls, {lengths} lengths" if tainted else "no"
-        yield f"| {name} | " + " | ".join(cells) + f" | {by} | {joined(row['commit'] for row in of_build)} |"
+        yield f"| {compiler} | {BUILDS[build]} | " + " | ".join(cells) + f" | {by} | {joined(row['commit'] for row in of_build)} |"
 
 
 def main():

@@ -9,6 +9,7 @@ A site is an instruction, of which one of these is said:
 """
 import argparse
 import concurrent.futures
+import functools
 import os
 import pathlib
 import random
@@ -26,10 +27,11 @@ WRAP_COMMANDS = [(command + pad, variant) for pad in ("", " --pad")
 # What the table says of the variants of a call, and with which status the program ends: the call succeeds; it refuses; or one reading
 # of a file is over other bytes than those before it: the second of an opening has another tag, the last one another text.
 VARIANTS = {"ok": "", "no": ", refused", "second": ", second reading changed", "last": ", last reading changed"}
-# The columns of the file of --record. `traces` counts the runs of each call over every length with several secrets, `memcheck` the
-# calls that memcheck looked at; branches, addresses and verdicts are places in the library.
-COLUMNS = ("build", "suite", "calls", "traces", "instructions", "memcheck", "lengths of memcheck", "branches", "addresses", "verdicts",
-           "commit")
+# The columns of the file of --record. The compiler is the kit, or rustc with its version. `traces` counts the runs of each call over
+# every length with several secrets, `memcheck` the calls that memcheck looked at; branches, addresses and verdicts are places in the
+# library.
+COLUMNS = ("compiler", "build", "suite", "calls", "traces", "instructions", "memcheck", "lengths of memcheck", "branches", "addresses",
+           "verdicts", "commit")
 STATUSES = {"ok": 0, "no": 1, "second": 3, "last": 3}
 # The names of the library's calls. That of a command of the program is two words or more.
 OF_LIBRARY = r"\S+"
@@ -43,10 +45,16 @@ VERDICTS = r"open(_in_place)?(_with)?|opener_begin_second|opener_finish|siv_fini
 STRETCH = 800
 # Instructions whose time depends on their operands on some processors. Neither run sees that.
 VARIABLE = re.compile(r"(v?(i?div[bwlq]?|pdep|pext|[sd]?div[sp][sd]|sqrt[sp][sd]|p?gather\w+|pcmp[ei]str\w)|[us]div|f(div|sqrt)) ")
-# What objdump puts behind an instruction. A number of AArch64 has the sign # too.
-COMMENT = re.compile(r"#(?![-\dx])|//")
+# What objdump puts behind an instruction: the symbol of an address, or a comment. A number of AArch64 has the sign # too.
+COMMENT = re.compile(r" <|#(?![-\dx])|//")
 # Conditional jumps of both processors.
 JUMP = re.compile(r"j[^m]|b\.|cbn?z |tbn?z ")
+# What rustc writes into the objects that it makes.
+RUSTC = re.compile(rb"rustc version (\S+)")
+# In the name of a function the modules in which cargo has the sources, and rustc's numbers of crates and functions; and generic
+# arguments, or a type, perhaps with the trait whose method the function is.
+OF_RUSTC = re.compile(r"\baeadkit(\[\w+\])?::(proved::)?|\[\w+\](?=::)|::h[0-9a-f]{16}$")
+ARGUMENTS = re.compile(r"(::|(?<=\w))?<([^<>]*?)(?: as (?:[^<>]*::)?(\w+))?>")
 # `bt` of registers: valgrind computes it by way of memory, and reports the number of the bit as an address.
 BIT_OF_REGISTER = re.compile(r"bt[scr]?[lqw]? +%\w+,%\w+$")
 
@@ -73,6 +81,15 @@ def traced(words, variables, *options_of_qemu):
     return [*qemu, *options_of_qemu, *inside, *words], variables
 
 
+@functools.cache
+def named(symbol):
+    """The name of a function, the same for each compiler: without generic arguments, and Type and Trait joined, as the kit does."""
+    name, count = OF_RUSTC.sub("", run("c++filt", "-s", "rust", symbol).stdout.strip()), 1
+    while count:
+        name, count = ARGUMENTS.subn(lambda found: "" if found[1] is not None else found[2] + (found[3] or ""), name)
+    return name
+
+
 class Objects:
     """The objects of a process, to which addresses belong, as it prints them itself. A place is an object and an address in it."""
 
@@ -96,6 +113,9 @@ class Target:
 
     def __init__(self, build, path, words, **variables):
         self.build, self.path = build, path
+        with open(f"{os.path.dirname(path)}/libaeadkit.so", "rb") as library:
+            found = RUSTC.search(library.read())
+        self.compiler = f"rustc {found[1].decode()}" if found else "kit"
         # Under QEMU the objects lie elsewhere than under memcheck.
         command, variables = traced([path, *words], variables)
         output = run(*command, **variables).stdout
@@ -112,7 +132,8 @@ class Target:
 
     def where(self, place):
         """The function and the instruction that stand at a place."""
-        return self.code.get(place, (place[0], "?"))
+        function, instruction = self.code.get(place, (place[0], "?"))
+        return named(function), instruction
 
 
 class Site:
@@ -433,32 +454,34 @@ def table(builds, counts, places):
 def summary(target, cells):
     """What can be said of a build's library beside its sites."""
     code = {at: of for at, of in target.code.items() if at[0] == "libaeadkit.so"}
-    variable = {function for function, instruction in code.values() if VARIABLE.match(instruction + " ")}
+    variable = {named(function) for function, instruction in code.values() if VARIABLE.match(instruction + " ")}
     yield f"{target.build}: divisions, square roots, gathers, pdep and pext: {', '.join(sorted(variable)) or 'none'}"
     ran = set().union(*[cell.ran for cell in cells])
     jumps = {at: function for at, (function, instruction) in code.items() if JUMP.match(instruction)}
-    never = set(jumps.values()) - {code[at][0] for at in ran if at in code}
+    never = {named(function) for function in set(jumps.values()) - {code[at][0] for at in ran if at in code}}
     yield f"{target.build}: {sum(1 for at in jumps if at in ran)} of {len(jumps)} conditional jumps of the library ran in a trace"
     yield f"{target.build}: functions with jumps that did not run: {', '.join(sorted(never)) or 'none'}"
 
 
 def record(cells, places):
-    """Puts a row for each build and suite into the file of --record."""
+    """Puts a row for each compiler, build and suite into the file of --record, also in the place of one by another rustc."""
     path, new = pathlib.Path(options.record), {}
     for cell in cells.values():
         if cell.suite != "0" and re.fullmatch(OF_LIBRARY, cell.call):
-            new.setdefault((cell.target.build, cell.suite), []).append(cell)
+            new.setdefault((cell.target.compiler, cell.target.build, cell.suite), []).append(cell)
     old = path.read_text(encoding="utf-8").splitlines() if path.exists() else []
-    rows = {tuple(row.split("\t")[:2]): row for row in old if not row.startswith("#")}
-    for (build, suite), of in new.items():
+    old = [row.split("\t") for row in old if not row.startswith("#")]
+    rows = {(row[0].split()[0], *row[1:3]): row for row in old}
+    for (compiler, build, suite), of in new.items():
         found = {kind: {place for (_, its), at in places.items() if its == kind for (name, place), by in at.items()
                         if name == build and any(cell in of for cell, _ in by)} for kind in ("branch", "address", "verdict")}
         tainted = sum(cell.is_tainted() for cell in of)
-        rows[build, suite] = "\t".join(map(str, (
-            build, suite, len(of), sum(cell.runs for cell in of), sum(cell.instructions for cell in of), tainted,
-            {"whole": "all", "short": "some"}[options.lengths] if tainted else "none", *map(len, found.values()), options.commit)))
-    order = sorted(rows, key=lambda key: (("default", "x86-64-v3", "aarch64").index(key[0]), int(key[1])))
-    path.write_text("".join(f"{row}\n" for row in ["# " + "\t".join(COLUMNS), *(rows[key] for key in order)]), encoding="utf-8")
+        rows[compiler.split()[0], build, suite] = map(str, (
+            compiler, build, suite, len(of), sum(cell.runs for cell in of), sum(cell.instructions for cell in of), tainted,
+            {"whole": "all", "short": "some"}[options.lengths] if tainted else "none", *map(len, found.values()), options.commit))
+    order = sorted(rows, key=lambda key: (key[0], ("default", "x86-64-v3", "aarch64").index(key[1]), int(key[2])))
+    lines = ["# " + "\t".join(COLUMNS), *("\t".join(rows[key]) for key in order)]
+    path.write_text("".join(f"{line}\n" for line in lines), encoding="utf-8")
 
 
 def main():
