@@ -11,6 +11,7 @@ pub enum FillError {
 }
 
 /// What has access to the words and the variables. Each call writes a text into the buffer and returns its length.
+#[allow(dead_code, reason = "nothing of the program asks for a variable")]
 pub trait Env {
     fn arg(&self, at: usize, buffer: &mut [u8]) -> Result<usize, FillError>;
 

@@ -22,9 +22,9 @@ pub mod hex;
 mod host;
 pub mod io;
 mod memory;
-pub mod text;
 #[cfg(test)]
 mod tests_only;
+pub mod text;
 
 pub use aeadkit::internals::kit::alloc;
 pub use host::HostRuntime;
