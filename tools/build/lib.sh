@@ -196,6 +196,7 @@ missing() {
         command -v "${tool%:*}" > /dev/null || echo "${tool#*:}"
     done
     [ -z "$(wrong_rust)" ] || echo cargo-web
+    command -v rustfmt > /dev/null || echo rustfmt-web
     "${PYTHON:-python3}" -c 'import setuptools' 2> /dev/null || echo python3-setuptools
     [ -e "$("${PYTHON:-python3}" -c 'import sysconfig; print(sysconfig.get_path("include"))' 2> /dev/null)/Python.h" ] || echo python3-dev
 }
