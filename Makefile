@@ -63,7 +63,7 @@ ready native:
 	@tools/build/lib.sh $@ "$(PREFIX)"
 $(packages) check-javascript bench check-again check-compilers: native
 check: ready check-documents $(packages) check-program
-	$(if $(filter rust,$(FROM)),@echo "left out: JavaScript, whose module the kit alone builds (make wasm check-javascript)")
+	$(if $(filter rust,$(FROM)),@echo "left out: JavaScript: the kit alone builds its module (make wasm check-javascript)")
 check-documents:
 	python3 tools/documents.py
 	python3 tools/edges.py
