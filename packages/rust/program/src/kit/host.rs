@@ -1,20 +1,9 @@
 //! The system that the program runs on.
 
 use super::alloc::Global;
-use super::{Abort, Alloc};
 
 #[derive(Clone, Copy)]
 pub struct HostRuntime;
-
-impl Abort for HostRuntime {}
-
-impl Alloc for HostRuntime {
-    type A = Global;
-
-    fn alloc(&self) -> Global {
-        Global
-    }
-}
 
 impl HostRuntime {
     pub fn alloc(&self) -> Global {

@@ -29,7 +29,7 @@ pub mod text;
 pub use aeadkit::internals::kit::alloc;
 pub use host::HostRuntime;
 #[cfg(test)]
-pub use tests_only::{bumpalo, rand_chacha};
+pub use tests_only::{Abort, Alloc, bumpalo, rand_chacha};
 pub use text::{InlineText, String};
 
 /// A text, however it is held.
@@ -47,14 +47,4 @@ impl<A: Allocator> AsStr for String<A> {
     fn as_str(&self) -> &str {
         self
     }
-}
-
-/// May end the program with a message, which tests alone do.
-pub trait Abort {}
-
-/// Has the system's allocator.
-pub trait Alloc {
-    type A;
-
-    fn alloc(&self) -> Self::A;
 }

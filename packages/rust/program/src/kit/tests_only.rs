@@ -1,5 +1,28 @@
 //! What the tests alone take.
 
+use super::HostRuntime;
+use super::alloc::Global;
+
+/// May end the program with a message.
+pub trait Abort {}
+
+impl Abort for HostRuntime {}
+
+/// Has the system's allocator.
+pub trait Alloc {
+    type A;
+
+    fn alloc(&self) -> Self::A;
+}
+
+impl Alloc for HostRuntime {
+    type A = Global;
+
+    fn alloc(&self) -> Global {
+        Global
+    }
+}
+
 pub mod bumpalo {
     use crate::kit::alloc::{AllocError, Allocator, Global};
     use std::alloc::Layout;
